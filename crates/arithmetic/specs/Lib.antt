@@ -1,0 +1,5 @@
+pub mod Meanings
+pub mod Kinds
+pub mod Admitting
+pub mod Sweeps
+pub mod Lent

@@ -1,0 +1,3 @@
+pub mod Bigs
+pub mod Whole
+pub mod Refusals

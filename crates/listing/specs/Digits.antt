@@ -1,0 +1,10 @@
+-- Digits in base 16, lower case. Assumes nothing.
+use Prim.Native.Nat.{ℕ, zero, suc, _/_, _%_}
+use mathlib.Core.Bool.{false}
+use mathlib.Core.List.{List, [], _∷_, _++_}
+use Rattle.std.specs.Written.{glyph}
+
+-- the n lowest digits of x, the highest of them first
+abbrev pub hexadecimal : ℕ → ℕ → List ℕ
+hexadecimal zero x = []
+hexadecimal (suc n) x = hexadecimal n (x / 16) ++ glyph false (x % 16) ∷ []
