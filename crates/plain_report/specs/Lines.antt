@@ -5,9 +5,7 @@ use lib.Chars.{codes}
 use lib.ListN.{length}
 use Rattle.std.specs.Written.{decimal}
 use Rattle.listing.specs.Digits.{hexadecimal}
-
-abbrev pub newline : List ℕ
-newline = 10 ∷ []
+use Rattle.listing.specs.Refusals.{newline}
 
 -- a row's number and its value's bits, in so many digits
 abbrev pub row-line : ℕ → ℕ → ℕ → List ℕ

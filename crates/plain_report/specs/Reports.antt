@@ -1,19 +1,9 @@
 -- What is printed of a case file: the refusal's line, or the values after its plain sweeps. Assumes nothing.
 use Prim.Native.Nat.{ℕ, _+_, _*_}
-use mathlib.Core.List.{List, [], _∷_, _++_, map}
+use mathlib.Core.List.{List, map}
 use denote.Ref.{now}
-use lib.ListN.{length}
-use lib.Dec.{ltb}
-use lib.Ieee.{Float}
 use Rattle.std.specs.Holes.{between}
-use Rattle.std.specs.declared.option.Option.{Option}
-use Rattle.std.specs.declared.option.Option.the-variants.{Some, None}
-use Rattle.checks.specs.declared.Check.the-variants.{FileLength}
-use Rattle.checks.specs.declared.Layer.the-variants.{File}
-use Rattle.checks.specs.declared.Fault.{Fault}
-use Rattle.checks.specs.Faults.{line-of}
 use Rattle.checks.specs.Lists.{at}
-use Rattle.checks.specs.Verdicts.{fault-if}
 use Rattle.arithmetic.specs.Meanings.{Meaning}
 use Rattle.arithmetic.specs.Kinds.{doubles, minutes}
 use Rattle.arithmetic.specs.Sweeps.{Equations, plain, sweeping-fault}
@@ -24,7 +14,8 @@ use Rattle.case_file.specs.Numbers.{big}
 use Rattle.case_file.specs.Doubles.{double, double-bits}
 use Rattle.case_file.specs.Elements.{elements}
 use Rattle.case_file.specs.Headers.{header-of, kind-of, offsets, reading-fault}
-use Rattle.plain_report.specs.Lines.{newline, plain-text}
+use Rattle.listing.specs.Refusals.{unless-fault, input-fault}
+use Rattle.plain_report.specs.Lines.{plain-text}
 
 -- what a case holds: its sizes, and each table's bytes
 pub record Tables : Type 0 where
@@ -73,11 +64,6 @@ equations-in width figure t = record {
   rhs = elements width figure (t .rhs);
 }
 
--- the refusal's line, or the text
-abbrev pub unless-fault : Option Fault → List ℕ → List ℕ
-unless-fault None text = text
-unless-fault (Some f) text = line-of f ++ newline
-
 -- equations swept plainly from a start; `bits` are what is printed of a figure of `width` bytes
 abbrev pub system-text : {X : Type 0} → Meaning X X → ℕ → (X → ℕ) → Equations X X → ℕ → List X → List ℕ
 system-text m width bits s sweeps start = unless-fault (sweeping-fault m s sweeps start) (plain-text sweeps (2 * width) (map bits (plain m s start sweeps)))
@@ -93,6 +79,6 @@ kind-text Minutes t = swept-text minutes 4 big (λ x. x) t
 abbrev pub file-text : List ℕ → List ℕ
 file-text file = unless-fault (reading-fault file) (kind-text (kind-of (header-of file)) (tables-in file))
 
--- what is printed of a file; one of more than 16,384 bytes has a wrong length
+-- what is printed of a file
 abbrev pub reported : List ℕ → List ℕ
-reported file = unless-fault (fault-if File FileLength 0 (ltb 16_384 (length file))) (file-text file)
+reported file = unless-fault (input-fault file) (file-text file)

@@ -1,12 +1,9 @@
 // A case file swept plainly, and what is printed of it.
 ghost use mathlib.Core.Path.{_≡_};
 ghost use Prim.Native.Nat.{_*_};
-ghost use mathlib.Core.List.{_++_};
 ghost use Rattle.std.specs.Of.String.{string-bytes};
 ghost use Rattle.std.specs.Vec.{made};
 ghost use Rattle.arithmetic.specs.Lent.{equations-of};
-ghost use Rattle.checks.specs.Faults.{line-of};
-ghost use Rattle.plain_report.specs.Lines.{newline};
 ghost use Rattle.plain_report.specs.Reports.{tables-of, system-text, swept-text, kind-text, file-text, reported};
 use crate::rows::plain_listing;
 use arithmetic::Arithmetic;
@@ -21,22 +18,11 @@ use case_file::filed::Filed;
 use case_file::filed::WordFiled;
 use case_file::kinds::Kind;
 use case_file::reading::Case;
-use checks::Check;
-use checks::Fault;
-use checks::FaultDisplay;
-use checks::Layer;
+use listing::refusals::check_input;
+use listing::refusals::refusal;
 use matrix::pattern::Matrix;
 use std::alloc::AllocError;
 use std::alloc::Global;
-
-// The most bytes that a program takes.
-pub const MOST_BYTES: usize = 16_384;
-
-fn refusal(heap: Global, fault: Fault) -> Result<String, AllocError>
-    ensures { λ r. ⌜ made r (λ text. string-bytes text ≡ line-of fault ++ newline) ⌝ }
-{
-    format!(heap, "{fault}\n")
-}
 
 // A case's tables as a system.
 fn system<'a, F>(
@@ -119,15 +105,8 @@ fn file_text(heap: Global, file: &[u8]) -> Result<String, AllocError>
 pub fn report(heap: Global, file: &[u8]) -> Result<String, AllocError>
     ensures { λ r. ⌜ made r (λ text. string-bytes text ≡ reported (now (file .entry))) ⌝ }
 {
-    if file.len() > MOST_BYTES {
-        return refusal(
-            heap,
-            Fault {
-                check: Check::FileLength,
-                place: 0,
-                layer: Layer::File,
-            },
-        );
+    match check_input(file) {
+        Ok(()) => file_text(heap, file),
+        Err(fault) => refusal(heap, fault),
     }
-    file_text(heap, file)
 }

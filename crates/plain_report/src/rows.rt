@@ -6,8 +6,8 @@ ghost use Rattle.std.specs.Of.String.{string-bytes};
 ghost use Rattle.std.specs.Vec.{made};
 ghost use Rattle.plain_report.specs.Lines.{row-line, rows-text, plain-text};
 use case_file::filed::Filed;
-use listing::Hexadecimal;
-use listing::HexadecimalDisplay;
+use listing::digits::Hexadecimal;
+use listing::digits::HexadecimalDisplay;
 use std::alloc::AllocError;
 use std::alloc::Global;
 

@@ -1,5 +1,5 @@
 // Sweeps the case on standard input plainly, rows in the order of the file, and prints every value's bits.
-use plain_report::reporting::MOST_BYTES;
+use listing::refusals::MOST_BYTES;
 use plain_report::reporting::report;
 use std::io;
 use std::io::Read;

@@ -1,4 +1,4 @@
-use Rattle.listing.proofs.+put_digits.Given as given
+use Rattle.listing.proofs.digits.+put_digits.Given as given
 
 abbrev pub μ-put-digits : given.MeasureT-put-digits
 μ-put-digits g l = l .digits
