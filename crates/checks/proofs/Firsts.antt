@@ -1,6 +1,6 @@
 -- The first place where a test passes, and what a check makes of it. Assumes nothing.
 use Prim.Native.Nat.{ℕ, zero, suc, _+_, _≤_, _<_}
-use mathlib.Core.Path.{_≡_, refl, sym, ap, subst, _∙_}
+use mathlib.Core.Path.{_≡_, refl, sym, ap, ap₂, subst, _∙_}
 use mathlib.Core.Logic.{_⊎_, inl, inr}
 use mathlib.Core.Bool.{Bool, true, false, cond}
 use mathlib.Core.List.{List}
@@ -78,3 +78,11 @@ module _ (layer : Layer) (check : Check) (bad : ℕ → Bool) (n : ℕ) where
 
 pub lowest-is-lowest : Lowest-is-lowest
 lowest-is-lowest layer check bad n = stands layer check bad n (ltb (first-where bad n) n) refl
+
+-- two tests that agree below n find the same place
+first-same : (p q : ℕ → Bool) (i n : ℕ) → ((k : ℕ) → i ≤ k → k < i + n → p k ≡ q k) → first-from p i n ≡ first-from q i n
+first-same p q i zero h = refl
+first-same p q i (suc n) h = ap₂ (λ b later. cond b i later) (h i (omega arith) (omega arith)) (first-same p q (i + 1) n (λ k a l. h k (omega arith) (omega arith)))
+
+pub lowest-same : (layer : Layer) (check : Check) (p q : ℕ → Bool) (n : ℕ) → ((k : ℕ) → k < n → p k ≡ q k) → lowest layer check p n ≡ lowest layer check q n
+lowest-same layer check p q n h = ap (λ f. fault-if layer check f (ltb f n)) (first-same p q 0 n (λ k a l. h k (omega arith)))

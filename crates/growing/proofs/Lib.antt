@@ -1,0 +1,16 @@
+pub mod Betters
+pub mod Settle
+pub mod Grows
+pub mod Whole
+pub mod Orders
+pub mod Cells
+pub mod Pairs
+pub mod Places
+pub mod Rows
+pub mod Turns
+pub mod Passing
+pub mod Remarks
+pub mod Steps
+pub mod Ranges
+pub mod Accepted
+pub mod Fills
