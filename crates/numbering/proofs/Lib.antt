@@ -1,0 +1,13 @@
+pub mod Passed
+pub mod Tallies
+pub mod Numbered
+pub mod Stretches
+pub mod Fits
+pub mod Carried
+pub mod Scattered
+pub mod Remappable
+pub mod Lexes
+pub mod Ranking
+pub mod Kept
+pub mod Buckets
+pub mod Sorts
