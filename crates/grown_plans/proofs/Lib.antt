@@ -1,0 +1,4 @@
+pub mod Tables
+pub mod Layers
+pub mod Renumbered
+pub mod Opens

@@ -1,0 +1,14 @@
+pub mod Leasts
+pub mod Folds
+pub mod Members
+pub mod Accepted
+pub mod Precedence
+pub mod Wordbits
+pub mod Noted
+pub mod Opened
+pub mod Readings
+pub mod Checked
+pub mod Lawful
+pub mod Held
+pub mod Places
+pub mod Counting

@@ -1,0 +1,11 @@
+pub mod Tilings
+pub mod Words
+pub mod Opening
+pub mod Laws
+pub mod Pairs
+pub mod Places
+pub mod Checked
+pub mod Lent
+pub mod Held
+pub mod BuiltIn
+pub mod Known

@@ -1,0 +1,5 @@
+pub mod Points
+pub mod Runs
+pub mod Sweeps
+pub mod Schedules
+pub mod Laws
