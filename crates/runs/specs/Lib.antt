@@ -1,0 +1,5 @@
+pub mod Instances
+pub mod Calls
+pub mod Held
+pub mod Histories
+pub mod Law
