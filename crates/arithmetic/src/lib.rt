@@ -1,4 +1,6 @@
 // The row arithmetic: what a row's new value is made with, for every kind of figure.
+#![tactic(auto)]
+
 ghost use Rattle.std.specs.Prelude.{◌≡◌};
 ghost use Rattle.arithmetic.specs.Meanings.{Meaning};
 

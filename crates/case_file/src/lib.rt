@@ -1,4 +1,6 @@
 // A case as it stands in a file: what the header says, and each table as a part of the borrowed bytes.
+#![tactic(auto)]
+
 pub mod filed;
 pub mod kinds;
 pub mod parts;

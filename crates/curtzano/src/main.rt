@@ -1,4 +1,6 @@
 // Solves the case on standard input tile by tile, and prints its tiles and every value's bits.
+#![tactic(auto)]
+
 use engine_report::reporting::report;
 use listing::refusals::MOST_BYTES;
 use std::io;

@@ -1,4 +1,6 @@
 // Examples for growing, the new numbering, plans and runs, with values from the rules or worked out by hand.
+#![tactic(auto)]
+
 #[cfg(test)]
 use checks::{Fault, Layer};
 

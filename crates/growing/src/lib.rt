@@ -1,4 +1,6 @@
 // Growing: the tile of every point, from the seed, and the marks of the entries.
+#![tactic(auto)]
+
 ghost use Rattle.std.specs.Prelude.{◌≡◌, length};
 ghost use Rattle.std.specs.Result.{result_err};
 ghost use Rattle.checks.specs.Verdicts.{unless_refused};

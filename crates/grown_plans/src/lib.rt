@@ -1,4 +1,6 @@
 // Growing, ordering, remapping and laying out, one after the other: a plan that opens, of every matrix and seed that growing accepts.
+#![tactic(auto)]
+
 ghost use Rattle.grown_plans.specs.Grown.{GrownPasses, GrownIsLawful, GrownOpens};
 
 // Each call on the way accepts what the one before it has made.

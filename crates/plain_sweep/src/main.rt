@@ -1,4 +1,6 @@
 // Sweeps the case on standard input plainly, rows in the order of the file, and prints every value's bits.
+#![tactic(auto)]
+
 use listing::refusals::MOST_BYTES;
 use plain_report::reporting::report;
 use std::io;

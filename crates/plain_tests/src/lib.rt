@@ -1,4 +1,6 @@
 // Examples for the matrix checks, the plain sweep, the case reader and the report, with values from the rules or worked out by hand.
+#![tactic(auto)]
+
 #[cfg(test)]
 use checks::Fault;
 

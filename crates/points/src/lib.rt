@@ -1,4 +1,6 @@
 // The order of points, for every 'directly precedes', every state and every way to find a row's new value.
+#![tactic(auto)]
+
 ghost use Rattle.points.specs.Laws.{EachAtItsTurn, AnyState};
 ghost use Rattle.points.specs.Laws.{EachRowPlain, PointsCounted};
 ghost use Rattle.points.specs.Laws.{AcceptsExactly, OneIsReady, WaitedForByHigher};

@@ -1,4 +1,6 @@
 // A problem prepared in memory from an allocator: grown, ranked, remapped, carried and laid out.
+#![tactic(auto)]
+
 pub mod failing;
 pub mod figures;
 pub mod layouts;

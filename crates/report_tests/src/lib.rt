@@ -1,4 +1,6 @@
 // What curtzano prints and replay writes of the path of three rows, with texts from the rules.
+#![tactic(auto)]
+
 #[cfg(test)]
 mod tests {
     use engine_report::reporting::report;

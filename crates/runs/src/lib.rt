@@ -1,4 +1,6 @@
 // Runs over a plan: beginning, tile calls and closing, and the law that every run keeps.
+#![tactic(auto)]
+
 pub mod laws;
 pub mod run;
 pub mod whole;

@@ -1,4 +1,6 @@
 // Grows the case on standard input, and prints the tile of every row, sweep by sweep.
+#![tactic(auto)]
+
 use listing::refusals::MOST_BYTES;
 use std::io;
 use std::io::Read;
