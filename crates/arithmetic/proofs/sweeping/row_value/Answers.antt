@@ -10,7 +10,7 @@ loop-column-preserved-in-Some-get g c =
     let m = g.K.Arithmetic.means c.args.arithmetic.now in
     let more = pairs-rest-more c.loop-column.column-iterator c.next.new.self c.next.result _ c.in-Some.is c.next.ensures.steps in
     let value = found_rest c.args.vector.now _ c.get.result c.get.ensures.lookup _ c.in-Some-get.is in (
-      walk_more (with_entry m c.args.row c.args.vector.now) _ _ more (with_value m c.args.row c.args.vector.now _ _ _ c.if-column-row.false value c.take-in-acc.ensures) c.loop-column.invariant.0,
+      walk_more (with_entry m c.args.row c.args.vector.now) _ _ more (with_value m c.args.row c.args.vector.now _ _ _ c.if-column-row.false value c.take_in-acc.ensures) c.loop-column.invariant.0,
       walk_more (own_coefficient c.args.row) _ _ more (own_other m c.args.row c.args.vector.now c.loop-column.acc _ _ c.if-column-row.false _) c.loop-column.invariant.1,
     )
 
@@ -18,7 +18,7 @@ pub loop-column-preserved : goal.loop-column-preserved
 loop-column-preserved g c =
     let m = g.K.Arithmetic.means c.args.arithmetic.now in
     let more = pairs-rest-more c.loop-column.column-iterator c.next.new.self c.next.result _ c.in-Some.is c.next.ensures.steps in
-    let none = missing_rest c.args.vector.now _ c.get.result c.get.ensures.lookup c.in-default.not-Some in (
+    let none = missing_rest c.args.vector.now _ c.get.result c.get.ensures.lookup c.in_default.not-Some in (
       walk_more (with_entry m c.args.row c.args.vector.now) _ _ more (with_none m c.args.row c.args.vector.now _ _ _ c.if-column-row.false none) c.loop-column.invariant.0,
       walk_more (own_coefficient c.args.row) _ _ more (own_other m c.args.row c.args.vector.now c.loop-column.acc _ _ c.if-column-row.false _) c.loop-column.invariant.1,
     )

@@ -13,6 +13,6 @@ returns g c =
     let x = plain (g.K.Arithmetic.means c.args.arithmetic.now) (equations_of c.args.system.now) c.args.vector.now in
     let all : c.loop-sweep.-sweep ≡ c.args.sweeps = omega arith in
     record {
-      answer = c.in-ok-check-sweeping.ensures;
-      values = left_after (x c.args.sweeps) c.args.vector.now c.in-ok-check-sweeping.ensures (c.loop-sweep.invariant ∙ ap x all);
+      answer = c.in_ok-check_sweeping.ensures;
+      values = left_after (x c.args.sweeps) c.args.vector.now c.in_ok-check_sweeping.ensures (c.loop-sweep.invariant ∙ ap x all);
     }

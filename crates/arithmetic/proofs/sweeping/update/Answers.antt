@@ -7,7 +7,7 @@ use Rattle.arithmetic.proofs.sweeping.update.Goals.{else-at-system-via-then-at-s
 pub returns-then-at-vector : goal.returns-then-at-vector
 returns-then-at-vector g c =
     updated_at (g.K.Arithmetic.means c.args.arithmetic.now) (equations_of c.args.system.now) c.args.vector.now c.args.row
-    c.row-columns.result.now c.row-coefficients.result.now _ c.index-system-at.result _ c.if-at-system.true refl c.row-columns.ensures c.row-coefficients.ensures c.row-value-value.ensures
+    c.row-columns.result.now c.row-coefficients.result.now _ c.index-system-at.result _ c.if-at-system.true refl c.row-columns.ensures c.row-coefficients.ensures c.row_value-value.ensures
 
 pub returns-else-at-system : goal.returns-else-at-system
 returns-else-at-system g c =

@@ -14,5 +14,5 @@ loop-tile-preserved c =
     let l = tiling_held c.args.plan.now in
     let tile : ℕ → Tile = λ u. record { points = points_of l u; waits = at (wait_words_of l) u } in
     let t = c.loop-tile.tile in
-    let here : record { points = c.tile-points.result; waits = c.wait-word.result } ≡ tile t = ap₂ (λ (p w : ℕ). record { points = p; waits = w }) c.tile-points.ensures c.wait-word.ensures.value in
-    pushed (_ ∷ []) c.loop-tile.invariant c.in-ok-push.was c.push.ensures.items ∙ ap (λ x. map tile (upto t) ++ x ∷ []) here ∙ sym (ap (map tile) (upto_next t) ∙ map-append tile (upto t) (t ∷ []))
+    let here : record { points = c.tile_points.result; waits = c.wait_word.result } ≡ tile t = ap₂ (λ (p w : ℕ). record { points = p; waits = w }) c.tile_points.ensures c.wait_word.ensures.value in
+    pushed (_ ∷ []) c.loop-tile.invariant c.in_ok-push.was c.push.ensures.items ∙ ap (λ x. map tile (upto t) ++ x ∷ []) here ∙ sym (ap (map tile) (upto_next t) ∙ map-append tile (upto t) (t ∷ []))

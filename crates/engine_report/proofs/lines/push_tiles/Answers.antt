@@ -9,8 +9,8 @@ loop-number-preserved c =
     let tiles = c.args.tiles.now in
     let i = c.loop-number.number in
     let tile = get_or tiles i (record { points = 0; waits = 0 }) in
-    numbered_more tile_line tiles i tile _ (string_bytes c.loop-number.text) (string_bytes c.push-tile.new.text) c.loop-number-test.true (get_or_default tiles i (record { points = 0; waits = 0 }) tile c.loop-number-test.true) refl
-    c.in-ok-push-tile.ensures c.loop-number.invariant
+    numbered_more tile_line tiles i tile _ (string_bytes c.loop-number.text) (string_bytes c.push_tile.new.text) c.loop-number-test.true (get_or_default tiles i (record { points = 0; waits = 0 }) tile c.loop-number-test.true) refl
+    c.in_ok-push_tile.ensures c.loop-number.invariant
 
 pub returns : goal.returns
 returns c = numbered_all tile_line c.args.tiles.now c.loop-number.number (string_bytes c.loop-number.text) c.loop-number-test.false c.loop-number.invariant

@@ -10,14 +10,14 @@ use Rattle.growing.specs.Marks.{Sound, remarked}
 use Rattle.growing.proofs.Rows.{starts_within, all_row, length_row, length_row_is, row_before, row_written}
 use Rattle.growing.proofs.marking.mark_sweep.Goals as goal
 
-pub slice-bounds-mark-row-end : goal.slice-bounds-mark-row-end
-slice-bounds-mark-row-end c = starts_within (pattern_of c.args.matrix.now) c.requires.sound (c.loop-row.row + 1) (omega arith)
+pub slice_bounds-mark_row-end : goal.slice_bounds-mark_row-end
+slice_bounds-mark_row-end c = starts_within (pattern_of c.args.matrix.now) c.requires.sound (c.loop-row.row + 1) (omega arith)
 
-pub slice-bounds-mark-row-end-in-loop-row : goal.slice-bounds-mark-row-end-in-loop-row
-slice-bounds-mark-row-end-in-loop-row c = let h = starts_within (pattern_of c.args.matrix.now) c.requires.sound (c.loop-row.row + 1) (omega arith) in omega (arith, c.loop-row.auto.marks, c.requires.marks)
+pub slice_bounds-mark_row-end-in-loop-row : goal.slice_bounds-mark_row-end-in-loop-row
+slice_bounds-mark_row-end-in-loop-row c = let h = starts_within (pattern_of c.args.matrix.now) c.requires.sound (c.loop-row.row + 1) (omega arith) in omega (arith, c.loop-row.auto.marks, c.requires.marks)
 
-pub mark-row-requires : goal.mark-row-requires
-mark-row-requires c =
+pub mark_row-requires : goal.mark_row-requires
+mark_row-requires c =
     let m = pattern_of c.args.matrix.now in
     let tiles = c.args.tiles.now in
     record {
@@ -38,9 +38,9 @@ loop-row-preserved c =
     let f : ℕ → List ℕ = λ u. remarked tiles u (row_part m m.columns u) (row_part m old u) in
     let l : v < m.rows = c.loop-row-test.true in
     let marks : c.loop-row.marks ≡ flat_map f (upto v) ++ drop (at m.starts v) old = c.loop-row.invariant in
-    let new : c.mark-row.new.marks ≡ f v =
-    c.mark-row.ensures ∙ ap (λ t. remarked tiles v (row_part m m.columns v) (row_part m t v)) marks ∙ ap (remarked tiles v (row_part m m.columns v)) (row_before m c.requires.sound f (long m c.requires.sound tiles old) old v l) in
-    ap (λ t. put_mid (at m.starts v) (at m.starts (v + 1) - at m.starts v) t c.mark-row.new.marks) marks
+    let new : c.mark_row.new.marks ≡ f v =
+    c.mark_row.ensures ∙ ap (λ t. remarked tiles v (row_part m m.columns v) (row_part m t v)) marks ∙ ap (remarked tiles v (row_part m m.columns v)) (row_before m c.requires.sound f (long m c.requires.sound tiles old) old v l) in
+    ap (λ t. put_mid (at m.starts v) (at m.starts (v + 1) - at m.starts v) t c.mark_row.new.marks) marks
     ∙ ap (put_mid (at m.starts v) (at m.starts (v + 1) - at m.starts v) (flat_map f (upto v) ++ drop (at m.starts v) old)) new
     ∙ row_written m c.requires.sound f (long m c.requires.sound tiles old) old v l
 

@@ -11,11 +11,11 @@ use Rattle.growing.proofs.pulling.pass.Goals as goal
 pub loop-i-init : goal.loop-i-init
 loop-i-init c = pulls_none c.args.growth c.args.tile_table_of.now c.requires.placed
 
-pub overflow-cast-row : goal.overflow-cast-row
-overflow-cast-row c = omega (arith, c.place-row.ensures.below)
+pub overflow_cast-row : goal.overflow_cast-row
+overflow_cast-row c = omega (arith, c.place-row.ensures.below)
 
-pub pull-row-moved-requires : goal.pull-row-moved-requires
-pull-row-moved-requires c =
+pub pull_row-moved-requires : goal.pull_row-moved-requires
+pull_row-moved-requires c =
     let m = pattern_of c.args.matrix.now in
     let v = c.place-row.result in
     let columns = m.columns in
@@ -23,7 +23,7 @@ pull-row-moved-requires c =
     record {
       placed = subst (λ t. Placed c.args.growth t) (sym c.loop-i.auto.tile_table_of) c.requires.placed;
       row = omega (arith, c.place-row.ensures.below, c.requires.rows);
-      marks = ap length c.row-row-marks.ensures ∙ length_row m v marks columns c.requires.marks ∙ ap length (sym c.row-columns.ensures);
+      marks = ap length c.row-row_marks.ensures ∙ length_row m v marks columns c.requires.marks ∙ ap length (sym c.row-columns.ensures);
       columns = subst (All (λ w. w < c.args.growth.rows)) (sym c.row-columns.ensures) (all_row m v (λ w. w < c.args.growth.rows) columns c.requires.columns);
     }
 
@@ -39,10 +39,10 @@ loop-i-preserved c =
     let v = c.place-row.result in
     pulls_more w f c.loop-i.i _ _ c.args.tile_table_of.now y _ c.requires.placed c.loop-i.invariant
     (pulls_as w _ (λ near g. f near g c.loop-i.i) _ y _
-    (ap (λ cols. row_step w.direction c.args.backward v cols c.row-row-marks.result.now near g) c.row-columns.ensures
-    ∙ ap (λ mks. row_step w.direction c.args.backward v (row_part m m.columns v) mks near g) c.row-row-marks.ensures
+    (ap (λ cols. row_step w.direction c.args.backward v cols c.row-row_marks.result.now near g) c.row-columns.ensures
+    ∙ ap (λ mks. row_step w.direction c.args.backward v (row_part m m.columns v) mks near g) c.row-row_marks.ensures
     ∙ ap (λ u. row_step w.direction c.args.backward u (row_part m m.columns u) (row_part m marks u) near g) c.place-row.ensures.is)
-    c.pull-row-moved.ensures)
+    c.pull_row-moved.ensures)
 
 pub returns : goal.returns
 unfolding pass

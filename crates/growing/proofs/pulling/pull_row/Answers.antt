@@ -8,8 +8,8 @@ use Rattle.growing.proofs.pulling.pull_row.Goals as goal
 pub loop-i-init : goal.loop-i-init
 loop-i-init c = pulls_none c.args.growth c.args.tile_table_of.now c.requires.placed
 
-pub pull-entry-moved-requires : goal.pull-entry-moved-requires
-pull-entry-moved-requires c =
+pub pull_entry-moved-requires : goal.pull_entry-moved-requires
+pull_entry-moved-requires c =
     record {
       placed = subst (λ t. Placed c.args.growth t) (sym c.loop-i.auto.tile_table_of) c.requires.placed;
       row = c.requires.row;
@@ -23,7 +23,7 @@ loop-i-preserved c =
     let y = c.loop-i.tile_table_of in
     pulls_more w f c.loop-i.i _ _ c.args.tile_table_of.now y _ c.requires.placed c.loop-i.invariant
     (pulls_as w _ (λ near g. f near g c.loop-i.i) _ y _
-    (ap (λ e. entry_step w.direction (near_of w y) c.args.row (own_of w y) (at c.args.columns.now e) (at c.args.marks.now e)) c.place-e.ensures.is) c.pull-entry-moved.ensures)
+    (ap (λ e. entry_step w.direction (near_of w y) c.args.row (own_of w y) (at c.args.columns.now e) (at c.args.marks.now e)) c.place-e.ensures.is) c.pull_entry-moved.ensures)
 
 pub returns : goal.returns
 unfolding row_step

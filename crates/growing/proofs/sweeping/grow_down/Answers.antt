@@ -7,13 +7,13 @@ use Rattle.growing.proofs.sweeping.grow_down.Goals as goal
 pub loop-sweep-init : goal.loop-sweep-init
 loop-sweep-init c = down_none (pattern_of c.args.matrix.now) c.args.from c.args.tile_table_of.now c.args.marks.now
 
-pub overflow-add-growth : goal.overflow-add-growth
-overflow-add-growth c =
+pub overflow_add-growth : goal.overflow_add-growth
+overflow_add-growth c =
     let h = two_within c.args.matrix.now.rows (c.loop-sweep.sweep - 1) c.args.from (omega arith) in
     omega (arith, c.requires.fits)
 
-pub grow-sweep-requires : goal.grow-sweep-requires
-grow-sweep-requires c =
+pub grow_sweep-requires : goal.grow_sweep-requires
+grow_sweep-requires c =
     let h = two_within c.args.matrix.now.rows (c.loop-sweep.sweep - 1) c.args.from (omega arith) in
     record {
       placed = (omega (arith, c.requires.fits, c.loop-sweep.auto.tile_table_of), omega (arith, c.requires.fits, c.loop-sweep.auto.tile_table_of), inr (omega arith));
@@ -31,7 +31,7 @@ loop-sweep-preserved c =
     let x = c.loop-sweep.tile_table_of in
     let fits : j * m.rows + m.rows + m.rows ≤ length x = omega (arith, c.requires.fits, c.loop-sweep.auto.tile_table_of) in
     down_more m j c.args.tile_table_of.now x _ c.args.marks.now c.loop-sweep.marks _ (omega arith) fits c.args.from (omega arith)
-    (subst (λ i. GrownDown m c.args.from i c.args.tile_table_of.now x c.args.marks.now c.loop-sweep.marks) e c.loop-sweep.invariant) c.grow-sweep.ensures
+    (subst (λ i. GrownDown m c.args.from i c.args.tile_table_of.now x c.args.marks.now c.loop-sweep.marks) e c.loop-sweep.invariant) c.grow_sweep.ensures
 
 pub returns : goal.returns
 returns c =

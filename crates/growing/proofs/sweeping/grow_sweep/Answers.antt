@@ -10,7 +10,7 @@ pub settle-requires : goal.settle-requires
 settle-requires c =
     let m = pattern_of c.args.matrix.now in
     record {
-      placed = subst (Placed c.args.growth) (sym c.copy-within.ensures.len) c.requires.placed;
+      placed = subst (Placed c.args.growth) (sym c.copy_within.ensures.len) c.requires.placed;
       rows = c.requires.rows;
       marks = c.requires.marks;
       columns = subst (λ n. All (λ w. w < n) m.columns) c.requires.rows c.requires.sound.inside;
@@ -23,5 +23,5 @@ returns c =
     let was = c.args.tile_table_of.now in
     let y = c.settle.new.tile_table_of in
     let n : w.own + w.rows - w.own ≡ w.rows = omega arith in
-    grows_one w m c.requires.sound was c.requires.placed c.copy-within.new.self y c.args.marks.now _ (omega arith) (copied w m c.requires.sound was c.requires.placed _ c.copy-within.ensures.after)
-    c.settle.ensures (c.mark-sweep.ensures ∙ ap (λ i. remarked_all m (take i (drop w.own y)) c.args.marks.now) n)
+    grows_one w m c.requires.sound was c.requires.placed c.copy_within.new.self y c.args.marks.now _ (omega arith) (copied w m c.requires.sound was c.requires.placed _ c.copy_within.ensures.after)
+    c.settle.ensures (c.mark_sweep.ensures ∙ ap (λ i. remarked_all m (take i (drop w.own y)) c.args.marks.now) n)

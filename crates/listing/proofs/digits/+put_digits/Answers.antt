@@ -5,6 +5,6 @@ use Rattle.listing.proofs.digits.+put_digits.Goals as goal
 
 pub returns : goal.returns
 returns g t c = λ plain ok.
-    let front = c.in-ok-put-digits.ensures plain refl in
+    let front = c.in_ok-put_digits.ensures plain refl in
     let count : suc (c.args.digits - 1) ≡ c.args.digits = omega arith in
-    has_written_of_eq g.W.Write.write_str_gives _ _ _ _ (ap (λ k. hexadecimal k c.args.number) count) (has_written_append g.W.Write.write_str_gives _ _ _ _ _ front (c.put-digit.ensures front.plain ok))
+    has_written_of_eq g.W.Write.write_str_gives _ _ _ _ (ap (λ k. hexadecimal k c.args.number) count) (has_written_append g.W.Write.write_str_gives _ _ _ _ _ front (c.put_digit.ensures front.plain ok))

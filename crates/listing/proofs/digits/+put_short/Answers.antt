@@ -16,9 +16,9 @@ more_digits (suc n) x h l =
     ap (λ k. short_hexadecimal k (x / 16) ++ digit_glyph false (x % 16) ∷ []) e ∙ ap (λ b. cond b [] (short_hexadecimal n (x / 16)) ++ digit_glyph false (x % 16) ∷ []) (sym (le-ltb x 16 l))
 
 pub returns-then-number-lt16 : goal.returns-then-number-lt16
-returns-then-number-lt16 g t c = λ plain ok. has_written_of_eq g.W.Write.write_str_gives _ _ _ _ (one_digit c.args.most c.args.number c.if-most-eq0.false c.if-number-lt16.true) (c.put-digit.ensures plain ok)
+returns-then-number-lt16 g t c = λ plain ok. has_written_of_eq g.W.Write.write_str_gives _ _ _ _ (one_digit c.args.most c.args.number c.if-most-eq0.false c.if-number-lt16.true) (c.put_digit.ensures plain ok)
 
 pub returns : goal.returns
 returns g t c = λ plain ok.
-    let front = c.in-ok-put-short.ensures plain refl in
-    has_written_of_eq g.W.Write.write_str_gives _ _ _ _ (more_digits c.args.most c.args.number c.if-most-eq0.false c.if-number-lt16.false) (has_written_append g.W.Write.write_str_gives _ _ _ _ _ front (c.put-digit-2.ensures front.plain ok))
+    let front = c.in_ok-put_short.ensures plain refl in
+    has_written_of_eq g.W.Write.write_str_gives _ _ _ _ (more_digits c.args.most c.args.number c.if-most-eq0.false c.if-number-lt16.false) (has_written_append g.W.Write.write_str_gives _ _ _ _ _ front (c.put_digit-2.ensures front.plain ok))

@@ -1,4 +1,4 @@
 use Rattle.listing.proofs.digits.+put_short.Given as goal
 
-abbrev pub decreases-put-short : goal.decreases-put-short
-decreases-put-short g l = l.most
+abbrev pub decreases-put_short : goal.decreases-put_short
+decreases-put_short g l = l.most

@@ -5,4 +5,4 @@ use Rattle.listing.proofs.digits.put_digit.Goals as goal
 
 pub returns : goal.returns
 returns g c = λ plain ok.
-    has_written_of_eq g.W.Write.write_str_gives _ _ _ _ (encode_ascii _ c.digit.ensures.ascii ∙ ap (λ x. x ∷ []) c.digit.ensures.value) (c.write-char.ensures.writes plain ok)
+    has_written_of_eq g.W.Write.write_str_gives _ _ _ _ (encode_ascii _ c.digit.ensures.ascii ∙ ap (λ x. x ∷ []) c.digit.ensures.value) (c.write_char.ensures.writes plain ok)

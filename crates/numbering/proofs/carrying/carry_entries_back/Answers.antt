@@ -8,22 +8,22 @@ use Rattle.numbering.proofs.carrying.carry_entries_back.Given as given
 use Rattle.numbering.proofs.carrying.carry_entries_back.Goals as goal
 use Rattle.numbering.proofs.carrying.carry_entries_back.Goals.{In-ok-check-entries, at·loop-row-holds, at·put-row-place-requires, at·loop-row-again, at·returns}
 
-known : (g : given.Over) (c : In-ok-check-entries g) → Carryable c.args.rows c.args.entries c.args.starts.now c.args.ranks.now c.args.rows-by-rank.now (length c.args.to.now) (length c.args.from.now)
-known g c = carryable c.args.rows c.args.entries c.args.starts.now c.args.ranks.now c.args.rows-by-rank.now (length c.args.to.now) (length c.args.from.now) (sym c.in-ok-check-entries.ensures)
+known : (g : given.Over) (c : In-ok-check_entries g) → Carryable c.args.rows c.args.entries c.args.starts.now c.args.ranks.now c.args.rows_by_rank.now (length c.args.to.now) (length c.args.from.now)
+known g c = carryable c.args.rows c.args.entries c.args.starts.now c.args.ranks.now c.args.rows_by_rank.now (length c.args.to.now) (length c.args.from.now) (sym c.in_ok-check_entries.ensures)
 
 pub loop-row-init : goal.loop-row-init
 loop-row-init g c =
     let m = starts_pattern c.args.rows c.args.entries c.args.starts.now in
-    let k = known g (at·loop-row-holds g c).In-ok-check-entries in
-    (sym (new_start m k.fit c.args.ranks.now c.args.rows-by-rank.now k.num 0 (omega arith)), λ i h. absurd (omega arith))
+    let k = known g (at·loop-row-holds g c).In-ok-check_entries in
+    (sym (new_start m k.fit c.args.ranks.now c.args.rows_by_rank.now k.num 0 (omega arith)), λ i h. absurd (omega arith))
 
-pub put-row-place-requires : goal.put-row-place-requires
-put-row-place-requires g c =
+pub put_row-place-requires : goal.put_row-place-requires
+put_row-place-requires g c =
     let m = starts_pattern c.args.rows c.args.entries c.args.starts.now in
     let rank = c.args.ranks.now in
-    let row = c.args.rows-by-rank.now in
+    let row = c.args.rows_by_rank.now in
     let i = c.loop-row.row-index in
-    let k = known g (at·put-row-place-requires g c).In-ok-check-entries in
+    let k = known g (at·put_row-place-requires g c).In-ok-check_entries in
     let now : i < c.args.rows = omega (arith, k.tables.placed) in
     let below = k.num.inside i now in
     record {
@@ -39,23 +39,23 @@ pub loop-row-preserved : goal.loop-row-preserved
 loop-row-preserved g c =
     let m = starts_pattern c.args.rows c.args.entries c.args.starts.now in
     let rank = c.args.ranks.now in
-    let row = c.args.rows-by-rank.now in
+    let row = c.args.rows_by_rank.now in
     let from = c.args.from.now in
     let i = c.loop-row.row-index in
-    let k = known g (at·loop-row-again g c).In-ok-check-entries in
+    let k = known g (at·loop-row-again g c).In-ok-check_entries in
     let long = k.tables.new_listed in
     let now : i < c.args.rows = omega (arith, k.tables.placed) in
-    let more = holds_more m k.fit rank row k.num from long c.loop-row.to i c.loop-row.place c.put-row-place.result now (omega (arith, k.tables.listed)) c.loop-row.invariant.0 c.put-row-place.ensures.end c.loop-row.invariant.1 in (
-      c.put-row-place.ensures.end ∙ omega (arith, c.loop-row.invariant.0, next_start m k.fit rank row k.num from long i now),
-      subst (λ to. Holds m k.fit rank row k.num from long to (i + 1)) (sym c.put-row-place.ensures.put) more,
+    let more = holds_more m k.fit rank row k.num from long c.loop-row.to i c.loop-row.place c.put_row-place.result now (omega (arith, k.tables.listed)) c.loop-row.invariant.0 c.put_row-place.ensures.end c.loop-row.invariant.1 in (
+      c.put_row-place.ensures.end ∙ omega (arith, c.loop-row.invariant.0, next_start m k.fit rank row k.num from long i now),
+      subst (λ to. Holds m k.fit rank row k.num from long to (i + 1)) (sym c.put_row-place.ensures.put) more,
     )
 
 pub returns : goal.returns
 returns g c =
     let m = starts_pattern c.args.rows c.args.entries c.args.starts.now in
-    let k = known g (at·returns g c).In-ok-check-entries in
+    let k = known g (at·returns g c).In-ok-check_entries in
     record {
-      verdict = c.in-ok-check-entries.ensures;
+      verdict = c.in_ok-check_entries.ensures;
       carried =
-          holds_all m k.fit c.args.ranks.now c.args.rows-by-rank.now k.num c.args.from.now k.tables.new_listed c.loop-row.to (omega (arith, k.tables.listed)) (λ i h. c.loop-row.invariant.1 i (omega (arith, k.tables.placed)));
+          holds_all m k.fit c.args.ranks.now c.args.rows_by_rank.now k.num c.args.from.now k.tables.new_listed c.loop-row.to (omega (arith, k.tables.listed)) (λ i h. c.loop-row.invariant.1 i (omega (arith, k.tables.placed)));
     }

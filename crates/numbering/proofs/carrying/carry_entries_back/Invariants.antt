@@ -8,5 +8,5 @@ use Rattle.numbering.proofs.carrying.carry_entries_back.Given as goal
 abbrev pub invariant-loop-row : goal.invariant-loop-row
 invariant-loop-row g l =
     let m = starts_pattern l.rows l.entries l.starts in
-    let new = remapped m l.ranks l.rows-by-rank in
-    (l.place ≡ at new.starts l.row-index) × ((k : ℕ) → k < l.row-index → row_part m l.to (at l.rows-by-rank k) ≡ row_part new l.from k)
+    let new = remapped m l.ranks l.rows_by_rank in
+    (l.place ≡ at new.starts l.row-index) × ((k : ℕ) → k < l.row-index → row_part m l.to (at l.rows_by_rank k) ≡ row_part new l.from k)

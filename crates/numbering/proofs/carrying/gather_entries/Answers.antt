@@ -6,13 +6,13 @@ use Rattle.numbering.specs.Order.{carried_entries}
 use Rattle.numbering.proofs.Stretches.{joined_room, parts_more}
 use Rattle.numbering.proofs.carrying.gather_entries.Goals as goal
 
-pub put-part-requires : goal.put-part-requires
-put-part-requires g c =
+pub put_part-requires : goal.put_part-requires
+put_part-requires g c =
     omega
     (arith, joined_room (row_part (pattern_of c.args.matrix.now) c.args.from.now) c.args.rows.now c.loop-row.row-index 0 c.loop-row-test.true, ap length c.row_part.ensures, c.loop-row.invariant.0)
 
-pub overflow-add-place : goal.overflow-add-place
-overflow-add-place g c =
+pub overflow_add-place : goal.overflow_add-place
+overflow_add-place g c =
     let part = joined_room (row_part (pattern_of c.args.matrix.now) c.args.from.now) c.args.rows.now c.loop-row.row-index 0 c.loop-row-test.true in
     let room : c.loop-row.place + length c.row_part.result.now ≤ length c.loop-row.to = omega (arith, part, ap length c.row_part.ensures, c.loop-row.invariant.0) in
     search rules
@@ -22,7 +22,7 @@ loop-row-preserved g c =
     let more =
     parts_more (row_part (pattern_of c.args.matrix.now) c.args.from.now) c.args.rows.now c.loop-row.to c.loop-row.row-index 0 c.loop-row.place c.loop-row-test.true c.loop-row.invariant.0
     c.loop-row.invariant.1 (omega arith) c.row_part.result.now c.row_part.ensures in
-    (more.0, ap (take (c.loop-row.place + length c.row_part.result.now)) c.put-part.ensures ∙ more.1)
+    (more.0, ap (take (c.loop-row.place + length c.row_part.result.now)) c.put_part.ensures ∙ more.1)
 
 pub returns : goal.returns
 returns g c =

@@ -10,8 +10,8 @@ use Rattle.numbering.proofs.remapping.write_starts.Goals as goal
 pub loop-i-init : goal.loop-i-init
 loop-i-init c = (refl, take_more_set c.args.new_starts.now 0 0 (omega arith))
 
-pub overflow-add-place-in-loop-i : goal.overflow-add-place-in-loop-i
-overflow-add-place-in-loop-i c =
+pub overflow_add-place-in-loop-i : goal.overflow_add-place-in-loop-i
+overflow_add-place-in-loop-i c =
     let f = row_length (pattern_of c.args.matrix.now) in
     omega (arith, c.loop-i.invariant.0, sum_by_more f c.args.rows.now c.loop-i.i 0 c.loop-i-test.true, sum_by-take-le f c.args.rows.now (c.loop-i.i + 1), c.requires.small)
 

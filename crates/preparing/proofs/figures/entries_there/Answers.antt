@@ -8,10 +8,10 @@ use Rattle.preparing.proofs.figures.entries_there.Goals as goal
 pub returns : goal.returns
 returns g c =
     let m = pattern_of c.args.matrix.now in
-    let done = c.in-ok-carry-entries.ensures in
-    let ranks_are = c.as-slice.ensures.value in
-    let rows_are = c.as-slice-2.ensures.value in
-    let long = c.as-mut-slice.ensures.len in (
-      same_entries m.rows m.entries m.starts _ _ _ _ _ _ ranks_are rows_are (long ∙ c.in-ok-carried.ensures.len) done.verdict,
-      with_items_is c.in-ok-carried.carried c.carry-entries.new.to (c.carry-entries.auto.to ∙ long) ∙ done.carried ∙ ap (λ rows. carried_entries m rows c.args.list.now) rows_are,
+    let done = c.in_ok-carry_entries.ensures in
+    let ranks_are = c.as_slice.ensures.value in
+    let rows_are = c.as_slice-2.ensures.value in
+    let long = c.as_mut_slice.ensures.len in (
+      same_entries m.rows m.entries m.starts _ _ _ _ _ _ ranks_are rows_are (long ∙ c.in_ok-carried.ensures.len) done.verdict,
+      with_items_is c.in_ok-carried.carried c.carry_entries.new.to (c.carry_entries.auto.to ∙ long) ∙ done.carried ∙ ap (λ rows. carried_entries m rows c.args.list.now) rows_are,
     )

@@ -6,10 +6,10 @@ use Rattle.preparing.proofs.figures.rows_back.Goals as goal
 
 pub returns : goal.returns
 returns g c =
-    let done = c.in-ok-carry-rows-back.ensures in
-    let ranks_are = c.as-slice.ensures.value in
-    let rows_are = c.as-slice-2.ensures.value in
-    let long = c.as-mut-slice.ensures.len in (
-      same_rows c.args.rows _ _ _ _ _ _ _ ranks_are rows_are (long ∙ c.in-ok-carried.ensures.len) refl done.verdict,
-      with_items_is c.in-ok-carried.carried c.carry-rows-back.new.to (c.carry-rows-back.auto.to ∙ long) ∙ done.carried ∙ ap (λ rows. carried_rows rows c.args.list.now) ranks_are,
+    let done = c.in_ok-carry_rows_back.ensures in
+    let ranks_are = c.as_slice.ensures.value in
+    let rows_are = c.as_slice-2.ensures.value in
+    let long = c.as_mut_slice.ensures.len in (
+      same_rows c.args.rows _ _ _ _ _ _ _ ranks_are rows_are (long ∙ c.in_ok-carried.ensures.len) refl done.verdict,
+      with_items_is c.in_ok-carried.carried c.carry_rows_back.new.to (c.carry_rows_back.auto.to ∙ long) ∙ done.carried ∙ ap (λ rows. carried_rows rows c.args.list.now) ranks_are,
     )

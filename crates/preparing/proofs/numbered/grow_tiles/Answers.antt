@@ -13,8 +13,8 @@ same_fault m t k s seed a b p q x y e = sym (e ∙ ap₂ (growing_fault m t k s 
 pub returns : goal.returns
 returns c =
     let m = pattern_of c.args.matrix.now in
-    let grown = c.in-ok-grow.ensures in
-    let cells_long = c.as-mut-slice.ensures.len in (
-      same_fault m c.args.sweeps c.args.tiles c.args.seed_sweep c.args.seed.now _ _ _ _ (cells_long ∙ c.in-ok-tile-table.ensures.len) (c.as-mut-slice-2.ensures.len ∙ c.in-ok-marks.ensures.len) grown.fault,
-      with_items_is c.in-ok-tile-table.tile_table_of c.grow.new.tile_table_of (c.grow.auto.tile_table_of ∙ cells_long) ∙ grown.tiled ∙ left_is (tile_table_of m c.args.sweeps c.args.seed_sweep c.args.tiles c.args.seed.now) _ grown.fault,
+    let grown = c.in_ok-grow.ensures in
+    let cells_long = c.as_mut_slice.ensures.len in (
+      same_fault m c.args.sweeps c.args.tiles c.args.seed_sweep c.args.seed.now _ _ _ _ (cells_long ∙ c.in_ok-tile_table.ensures.len) (c.as_mut_slice-2.ensures.len ∙ c.in_ok-marks.ensures.len) grown.fault,
+      with_items_is c.in_ok-tile_table.tile_table_of c.grow.new.tile_table_of (c.grow.auto.tile_table_of ∙ cells_long) ∙ grown.tiled ∙ left_is (tile_table_of m c.args.sweeps c.args.seed_sweep c.args.tiles c.args.seed.now) _ grown.fault,
     )

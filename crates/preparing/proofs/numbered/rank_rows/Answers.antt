@@ -9,13 +9,13 @@ same_checks r t n a b s p q u e = cc
 
 pub returns : goal.returns
 returns c =
-    let ordered = c.in-ok-order.ensures in
-    let ranks_long = c.as-mut-slice.ensures.len in
-    let rows_long = c.as-mut-slice-2.ensures.len in (
-      same_checks c.args.rows c.args.sweeps (length c.args.tile_table_of.now) _ _ _ (ranks_long ∙ c.in-ok-ranks.ensures.len) (rows_long ∙ c.in-ok-by-rank.ensures.len)
-          (c.as-mut-slice-3.ensures.len ∙ c.in-ok-spare.ensures.len) ordered.verdict,
+    let ordered = c.in_ok-order.ensures in
+    let ranks_long = c.as_mut_slice.ensures.len in
+    let rows_long = c.as_mut_slice-2.ensures.len in (
+      same_checks c.args.rows c.args.sweeps (length c.args.tile_table_of.now) _ _ _ (ranks_long ∙ c.in_ok-ranks.ensures.len) (rows_long ∙ c.in_ok-by_rank.ensures.len)
+          (c.as_mut_slice-3.ensures.len ∙ c.in_ok-spare.ensures.len) ordered.verdict,
       (
-        with_items_is c.in-ok-ranks.ranks c.order.new.ranks (c.order.auto.ranks ∙ ranks_long) ∙ ordered.ranked,
-        with_items_is c.in-ok-by-rank.by_rank c.order.new.rows-by-rank (c.order.auto.rows-by-rank ∙ rows_long) ∙ ordered.placed,
+        with_items_is c.in_ok-ranks.ranks c.order.new.ranks (c.order.auto.ranks ∙ ranks_long) ∙ ordered.ranked,
+        with_items_is c.in_ok-by_rank.by_rank c.order.new.rows-by_rank (c.order.auto.rows-by_rank ∙ rows_long) ∙ ordered.placed,
       ),
     )

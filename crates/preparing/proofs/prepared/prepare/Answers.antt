@@ -9,27 +9,27 @@ use Rattle.preparing.proofs.Failures.{none_fails}
 use Rattle.preparing.proofs.Stepwise.{tiling_held, carrying_fails, preparing_none, laying_none}
 use Rattle.preparing.proofs.prepared.prepare.Goals as goal
 
-pub returns-in-err-figures : goal.returns-in-err-figures
-returns-in-err-figures g c =
+pub returns-in_err-figures : goal.returns-in_err-figures
+returns-in_err-figures g c =
     let p = posed_by c.args.problem.now in
-    let new = c.in-ok-ranking.ensures in
-    let q = err_from_is_err_and c.from-residual-in-err-figures.result c.from-residual-in-err-figures.ensures.1 in
-    rw (q.1, q.2) (carrying_fails p new.0 _ _ new.1.0.0 new.1.0.1 c.in-err-figures.field-0.0 c.in-err-figures.ensures)
+    let new = c.in_ok-ranking.ensures in
+    let q = err_from_is_err_and c.from_residual-in_err-figures.result c.from_residual-in_err-figures.ensures.1 in
+    rw (q.1, q.2) (carrying_fails p new.0 _ _ new.1.0.0 new.1.0.1 c.in_err-figures.field-0.0 c.in_err-figures.ensures)
 
-pub returns-in-err-layout : goal.returns-in-err-layout
-returns-in-err-layout g c =
+pub returns-in_err-layout : goal.returns-in_err-layout
+returns-in_err-layout g c =
     let p = posed_by c.args.problem.now in
-    let new = c.in-ok-ranking.ensures in
-    let q = err_from_is_err_and c.from-residual-in-err-layout.result c.from-residual-in-err-layout.ensures.1 in
-    rw (q.1, q.2) (none_fails _ _ c.in-err-layout.field-0.0 (laying_none p new.0 _ _ new.1.0.0 new.1.0.1 _ (tiling_held (tiling_of p) c.in-ok-ranking.field-0.tables new.1.1)) c.in-err-layout.ensures)
+    let new = c.in_ok-ranking.ensures in
+    let q = err_from_is_err_and c.from_residual-in_err-layout.result c.from_residual-in_err-layout.ensures.1 in
+    rw (q.1, q.2) (none_fails _ _ c.in_err-layout.field-0.0 (laying_none p new.0 _ _ new.1.0.0 new.1.0.1 _ (tiling_held (tiling_of p) c.in_ok-ranking.field-0.tables new.1.1)) c.in_err-layout.ensures)
 
 pub returns : goal.returns
 returns g c =
     let p = posed_by c.args.problem.now in
-    let new = c.in-ok-ranking.ensures in
-    let carried = c.in-ok-figures.ensures in
-    let laid = c.in-ok-layout.ensures.1 in
-    let l_is = tiling_held (tiling_of p) c.in-ok-ranking.field-0.tables new.1.1 in
+    let new = c.in_ok-ranking.ensures in
+    let carried = c.in_ok-figures.ensures in
+    let laid = c.in_ok-layout.ensures.1 in
+    let l_is = tiling_held (tiling_of p) c.in_ok-ranking.field-0.tables new.1.1 in
     let row_is = new.1.0.1 in (
       preparing_none p new.0 _ _ new.1.0.0 row_is carried.0,
       (

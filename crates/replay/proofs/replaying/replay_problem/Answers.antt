@@ -13,15 +13,15 @@ pub returns : goal.returns
 returns g c =
     let m = g.K.Arithmetic.means c.args.arithmetic.now in
     let p = posed_by c.args.problem.now in
-    let x = c.in-ok-tables.field-0 in
-    let prepared = c.in-ok-tables.ensures in
+    let x = c.in_ok-tables.field-0 in
+    let prepared = c.in_ok-tables.ensures in
     let digits = 2 * g.F.Filed.width in
     let bits = g.F.Filed.printed in
     let calls = c.args.calls.now in
-    let same = equations_new m p prepared.0 x prepared.1 _ _ _ c.as-slice.ensures.value c.as-slice-2.ensures.value c.as-mut-slice.ensures.value in
-    let start = start_new m p prepared.0 x prepared.1 _ _ _ c.as-slice.ensures.value c.as-slice-2.ensures.value c.as-mut-slice.ensures.value in
-    let tiling = l_is m p prepared.0 x prepared.1 _ _ _ c.as-slice.ensures.value c.as-slice-2.ensures.value c.as-mut-slice.ensures.value in
-    answers_as _ _ _ _ c.replay-prepared.result (running_is m p prepared.0 x prepared.1 _ _ _ c.as-slice.ensures.value c.as-slice-2.ensures.value c.as-mut-slice.ensures.value)
-    (λ text e. e ∙ ap₂ (λ s l. heading (matrix_of p).rows p.sweeps p.tiles ++ trace m s l digits bits (begun c.as-mut-slice.result.now) calls) same tiling
+    let same = equations_new m p prepared.0 x prepared.1 _ _ _ c.as_slice.ensures.value c.as_slice-2.ensures.value c.as_mut_slice.ensures.value in
+    let start = start_new m p prepared.0 x prepared.1 _ _ _ c.as_slice.ensures.value c.as_slice-2.ensures.value c.as_mut_slice.ensures.value in
+    let tiling = l_is m p prepared.0 x prepared.1 _ _ _ c.as_slice.ensures.value c.as_slice-2.ensures.value c.as_mut_slice.ensures.value in
+    answers_as _ _ _ _ c.replay_prepared.result (running_is m p prepared.0 x prepared.1 _ _ _ c.as_slice.ensures.value c.as_slice-2.ensures.value c.as_mut_slice.ensures.value)
+    (λ text e. e ∙ ap₂ (λ s l. heading (matrix_of p).rows p.sweeps p.tiles ++ trace m s l digits bits (begun c.as_mut_slice.result.now) calls) same tiling
     ∙ ap (λ y. heading (matrix_of p).rows p.sweeps p.tiles ++ trace m (renumbered p) (tiling_of p) digits bits (begun y) calls) start)
-    c.replay-prepared.ensures
+    c.replay_prepared.ensures

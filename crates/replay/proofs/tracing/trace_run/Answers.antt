@@ -12,7 +12,7 @@ pub loop-number-init : goal.loop-number-init
 loop-number-init g c =
     let m = g.K.Arithmetic.means c.args.arithmetic.now in
     let l = tiling_held c.args.plan.now in
-    let begun = c.in-ok-run.ensures in (
+    let begun = c.in_ok-run.ensures in (
       begun.sizes,
       begun_lengths m l.pattern c.args.coefficients.now c.args.right_hand_side.now c.args.vector.now (sym begun.answer),
       ap (λ (p : Progress). string_bytes c.args.text.now ++ trace m (equations_with l c.args.coefficients.now c.args.right_hand_side.now) l (2 * g.F.Filed.width) g.F.Filed.printed (record { progress = p; held = c.args.vector.now }) c.args.calls.now) begun.fresh,
@@ -33,18 +33,18 @@ loop-number-preserved g c =
       called.sizes ∙ inv.0,
       ap (lengths_fault l.pattern (length cs) (length bs)) c.tile-answer.auto.vector ∙ inv.1,
       trace_more m (equations_with l cs bs) l (2 * g.F.Filed.width) g.F.Filed.printed calls i (record { progress = progress_held run; held = c.loop-number.vector }) (string_bytes c.loop-number.text) inv.2
-          (get_or calls i 0) c.tile-answer.result (record { progress = progress_held c.tile-answer.new.self; held = c.tile-answer.new.vector }) (string_bytes c.note-call.new.text) c.loop-number-test.true refl answered
+          (get_or calls i 0) c.tile-answer.result (record { progress = progress_held c.tile-answer.new.self; held = c.tile-answer.new.vector }) (string_bytes c.note_call.new.text) c.loop-number-test.true refl answered
           called.count called.progress called.values c.in-Ok.ensures,
     )
 
-pub returns-in-Ok-note-closing : goal.returns-in-Ok-note-closing
-returns-in-Ok-note-closing g c =
+pub returns-in-Ok-note_closing : goal.returns-in-Ok-note_closing
+returns-in-Ok-note_closing g c =
     let m = g.K.Arithmetic.means c.args.arithmetic.now in
     let l = tiling_held c.args.plan.now in
     let inv = c.loop-number.invariant in
     let run = c.loop-number.run in (
-      sym c.in-ok-run.ensures.answer,
+      sym c.in_ok-run.ensures.answer,
       trace_all m (equations_with l c.args.coefficients.now c.args.right_hand_side.now) l (2 * g.F.Filed.width) g.F.Filed.printed c.args.calls.now c.loop-number.number-index (record { progress = progress_held run; held = c.loop-number.vector })
-          (string_bytes c.loop-number.text) inv.2 (string_bytes c.note-closing.new.text) c.loop-number-test.false
-          (c.in-Ok-note-closing.ensures ∙ ap (λ k. string_bytes c.loop-number.text ++ closing_line k) (c.close-closing.ensures ∙ ap (λ n. closing_of n.tiles (progress_held run)) inv.0)),
+          (string_bytes c.loop-number.text) inv.2 (string_bytes c.note_closing.new.text) c.loop-number-test.false
+          (c.in-Ok-note_closing.ensures ∙ ap (λ k. string_bytes c.loop-number.text ++ closing_line k) (c.close-closing.ensures ∙ ap (λ n. closing_of n.tiles (progress_held run)) inv.0)),
     )

@@ -15,8 +15,8 @@ returns g c =
     let bs = c.args.right_hand_side.now in
     let x = c.args.vector.now in
     let u = c.args.number in
-    let begun = c.in-ok-run.ensures in
-    let fault = c.tile.ensures.answer ∙ fresh_call m l cs bs x u c.in-ok-run.run' begun.answer begun.sizes begun.fresh in
+    let begun = c.in_ok-run.ensures in
+    let fault = c.tile.ensures.answer ∙ fresh_call m l cs bs x u c.in_ok-run.run' begun.answer begun.sizes begun.fresh in
     let progress = c.tile.ensures.progress ∙ ap₂ (λ v p. unless_refused v (advanced l u p) p) fault begun.fresh in
     record {
       answer = begun.answer;

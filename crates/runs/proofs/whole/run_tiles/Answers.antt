@@ -7,7 +7,7 @@ use Rattle.runs.proofs.Kept.{whole_law}
 use Rattle.runs.proofs.whole.run_tiles.Goals as goal
 
 pub loop-number-init : goal.loop-number-init
-loop-number-init g c = c.in-ok-run.ensures.reached
+loop-number-init g c = c.in_ok-run.ensures.reached
 
 pub loop-number-preserved : goal.loop-number-preserved
 loop-number-preserved g c =
@@ -22,7 +22,7 @@ pub returns : goal.returns
 returns g c =
     let m = g.K.Arithmetic.means c.args.arithmetic.now in
     let l = tiling_held c.args.plan.now in
-    let begun = c.in-ok-run.ensures in
+    let begun = c.in_ok-run.ensures in
     let long = lengths_are l.pattern (length c.args.coefficients.now) (length c.args.right_hand_side.now) (length c.args.vector.now)
     (begun_lengths m l.pattern c.args.coefficients.now c.args.right_hand_side.now c.args.vector.now (sym begun.answer)) in
     let reached = subst (λ cs. Reached m l c.args.coefficients.now c.args.right_hand_side.now c.args.vector.now cs c.loop-number.run c.loop-number.vector) (take_all _ c.args.calls.now c.loop-number-test.false) c.loop-number.invariant in

@@ -8,7 +8,7 @@ use Rattle.tile_report.proofs.tiles.push_cells.Goals as goal
 pub loop-tile-preserved : goal.loop-tile-preserved
 loop-tile-preserved c =
     pieces_more cell (string_bytes c.args.text.now) (string_bytes c.loop-tile.text) (string_bytes c.write.new.self) (take c.loop-tile.tile-index c.args.cells.now) (get_or c.args.cells.now c.loop-tile.tile-index 0)
-    (take_more c.args.cells.now c.loop-tile.tile-index 0 c.loop-tile-test.true) c.loop-tile.invariant c.in-ok-write.ensures.bytes
+    (take_more c.args.cells.now c.loop-tile.tile-index 0 c.loop-tile-test.true) c.loop-tile.invariant c.in_ok-write.ensures.bytes
 
 pub returns : goal.returns
 returns c = c.loop-tile.invariant ∙ ap (λ xs. string_bytes c.args.text.now ++ flat_map cell xs) (take_all _ c.args.cells.now c.loop-tile-test.false)

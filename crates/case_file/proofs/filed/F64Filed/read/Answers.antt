@@ -9,5 +9,5 @@ pub returns-in-len8 : goal.returns-in-len8
 returns-in-len8 c =
     let bytes = c.args.bytes.now in
     let long : length bytes ≡ 8 = search rules in
-    let bits : c.from-be-bytes-bits.result ≡ big bytes = omega (arith, c.from-be-bytes-bits.ensures, big_of bytes 8 long) in
-    whole_element bytes 8 long double c.f64-from-bits-with-nan.result (c.f64-from-bits-with-nan.ensures ∙ ap (of_bits binary64) bits)
+    let bits : c.from_be_bytes-bits.result ≡ big bytes = omega (arith, c.from_be_bytes-bits.ensures, big_of bytes 8 long) in
+    whole_element bytes 8 long double c.f64_from_bits_with_nan.result (c.f64_from_bits_with_nan.ensures ∙ ap (of_bits binary64) bits)

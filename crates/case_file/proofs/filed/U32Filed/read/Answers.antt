@@ -7,4 +7,4 @@ pub returns-in-len4 : goal.returns-in-len4
 returns-in-len4 c =
     let bytes = c.args.bytes.now in
     let long : length bytes ≡ 4 = search rules in
-    whole_element bytes 4 long big c.from-be-bytes.result (omega (arith, c.from-be-bytes.ensures, big_of bytes 4 long))
+    whole_element bytes 4 long big c.from_be_bytes.result (omega (arith, c.from_be_bytes.ensures, big_of bytes 4 long))

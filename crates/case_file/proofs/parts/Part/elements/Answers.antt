@@ -13,8 +13,8 @@ loop-i-preserved g c =
     let i = c.loop-i.i in
     let here : i < element_count width bytes = subst (λ n. i < length bytes / n) c.width.ensures c.loop-i-test.true in
     elim c.match-element.branch [
-      | in-Some+in-ok-push w ↦
+      | in-Some+in_ok-push w ↦
           let x = w.in-Some.element in
-          ap vec_items w.list-is ∙ pushed (x ∷ []) c.loop-i.invariant w.in-ok-push.was w.push.ensures.items ∙ next_element width filed bytes i here x w.in-Some.ensures
-      | in-default w ↦ absurd (never_none width filed bytes i here w.in-default.ensures)
+          ap vec_items w.list-is ∙ pushed (x ∷ []) c.loop-i.invariant w.in_ok-push.was w.push.ensures.items ∙ next_element width filed bytes i here x w.in-Some.ensures
+      | in_default w ↦ absurd (never_none width filed bytes i here w.in_default.ensures)
     ]

@@ -8,10 +8,10 @@ returns c =
     let count = c.args.count in
     record {
       offsets = (refl, refl);
-      lengths = (c.split-at.ensures.front-len, c.split-at.ensures.back_len);
+      lengths = (c.split_at.ensures.front-len, c.split_at.ensures.back_len);
       parts = λ file e.
           let long : count ≡ (offset + count) - offset = omega arith in (
-            c.split-at.ensures.front ∙ ap (take count) e ∙ ap (λ n. take n (drop offset file)) long,
-            c.split-at.ensures.back ∙ ap (drop count) e ∙ drop-drop count offset file,
+            c.split_at.ensures.front ∙ ap (take count) e ∙ ap (λ n. take n (drop offset file)) long,
+            c.split_at.ensures.back ∙ ap (drop count) e ∙ drop-drop count offset file,
           );
     }

@@ -15,13 +15,13 @@ start-from-requires c = let x = c.args.self.now.table in omega (arith, mul-add-l
 pub start-to-requires : goal.start-to-requires
 start-to-requires c = let x = c.args.self.now.table in omega (arith, mul-add-lt c.args.tile x.sweeps c.args.sweep x.tiles c.if-tile-self.false c.if-sweep-self.false)
 
-pub slice-bounds-result-start-2 : goal.slice-bounds-result-start-2
-slice-bounds-result-start-2 c =
+pub slice_bounds-result-start-2 : goal.slice_bounds-result-start-2
+slice_bounds-result-start-2 c =
     let l = tiling_held c.args.self.now in
     omega (arith, c.start-from.ensures.value, c.start-to.ensures.value, begins_more l.pattern.rows l.sweeps (tile_of l) (c.args.tile * l.sweeps + c.args.sweep))
 
-pub slice-bounds-result-count-2 : goal.slice-bounds-result-count-2
-slice-bounds-result-count-2 c =
+pub slice_bounds-result-count-2 : goal.slice_bounds-result-count-2
+slice_bounds-result-count-2 c =
     let l = tiling_held c.args.self.now in
     omega (arith, c.start-from.ensures.value, c.start-to.ensures.value, begins_more l.pattern.rows l.sweeps (tile_of l) (c.args.tile * l.sweeps + c.args.sweep))
 

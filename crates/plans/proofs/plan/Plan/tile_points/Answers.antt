@@ -19,8 +19,8 @@ start-requires c = let x = c.args.self.now.table in omega (arith, mul-le (c.args
 pub start-requires-2 : goal.start-requires-2
 start-requires-2 c = let x = c.args.self.now.table in omega (arith, mul-le c.args.tile x.sweeps x.tiles x.sweeps (omega (arith, c.if-tile-self.false)) (omega arith))
 
-pub overflow-sub-result : goal.overflow-sub-result
-overflow-sub-result c =
+pub overflow_sub-result : goal.overflow_sub-result
+overflow_sub-result c =
     let l = tiling_held c.args.self.now in
     omega (arith, c.start.ensures.value, c.start-2.ensures.value, begins_along l.pattern.rows l.sweeps (tile_of l) c.args.tile l.sweeps (omega arith))
 

@@ -9,8 +9,8 @@ pub loop-sweep-preserved : goal.loop-sweep-preserved
 loop-sweep-preserved c =
     let x = c.args.self.now in
     let g = sweep_pairs x.matrix.rows x.sweeps c.args.v c.args.w in (
-      fold_more (noted x.cells.now) c.args.words.now g c.loop-sweep.sweep c.loop-sweep.words c.note-sweep-lowest.new.words c.loop-sweep.invariant.0 c.note-sweep-lowest.ensures.words,
-      fold_more (lowered x.cells.now) c.args.lowest g c.loop-sweep.sweep c.loop-sweep.lowest c.note-sweep-lowest.result c.loop-sweep.invariant.1 c.note-sweep-lowest.ensures.lowest,
+      fold_more (noted x.cells.now) c.args.words.now g c.loop-sweep.sweep c.loop-sweep.words c.note_sweep-lowest.new.words c.loop-sweep.invariant.0 c.note_sweep-lowest.ensures.words,
+      fold_more (lowered x.cells.now) c.args.lowest g c.loop-sweep.sweep c.loop-sweep.lowest c.note_sweep-lowest.result c.loop-sweep.invariant.1 c.note_sweep-lowest.ensures.lowest,
     )
 
 pub returns : goal.returns

@@ -8,8 +8,8 @@ use Rattle.plans.proofs.Accepted.{part_below}
 use Rattle.plans.proofs.Folds.{fold_part_more, fold_part_all}
 use Rattle.plans.proofs.table.TileTable.note_row.Goals as goal
 
-pub note-link-lowest-requires : goal.note-link-lowest-requires
-note-link-lowest-requires c =
+pub note_link-lowest-requires : goal.note_link-lowest-requires
+note_link-lowest-requires c =
     let x = c.args.self.now in
     record {
       words = search rules;
@@ -22,8 +22,8 @@ pub loop-column-preserved : goal.loop-column-preserved
 loop-column-preserved c =
     let x = c.args.self.now in
     let g = link_pairs x.matrix.rows x.sweeps c.args.v in (
-      fold_part_more (noted x.cells.now) c.args.words.now g c.row_part.result.now c.loop-column.column-index 0 c.loop-column.words c.note-link-lowest.new.words c.loop-column-test.true c.loop-column.invariant.0 c.note-link-lowest.ensures.words,
-      fold_part_more (lowered x.cells.now) c.args.lowest g c.row_part.result.now c.loop-column.column-index 0 c.loop-column.lowest c.note-link-lowest.result c.loop-column-test.true c.loop-column.invariant.1 c.note-link-lowest.ensures.lowest,
+      fold_part_more (noted x.cells.now) c.args.words.now g c.row_part.result.now c.loop-column.column-index 0 c.loop-column.words c.note_link-lowest.new.words c.loop-column-test.true c.loop-column.invariant.0 c.note_link-lowest.ensures.words,
+      fold_part_more (lowered x.cells.now) c.args.lowest g c.row_part.result.now c.loop-column.column-index 0 c.loop-column.lowest c.note_link-lowest.result c.loop-column-test.true c.loop-column.invariant.1 c.note_link-lowest.ensures.lowest,
     )
 
 pub returns : goal.returns

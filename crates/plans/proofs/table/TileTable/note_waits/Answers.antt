@@ -12,8 +12,8 @@ pub loop-v-preserved : goal.loop-v-preserved
 loop-v-preserved c =
     let x = c.args.self.now in
     let g = row_pairs (tiling_of x) in (
-      fold_more (noted x.cells.now) c.fill.new.self g c.loop-v.v c.loop-v.words c.note-row-lowest.new.words c.loop-v.invariant.0 c.note-row-lowest.ensures.words,
-      fold_more (lowered x.cells.now) (length x.cells.now) g c.loop-v.v c.loop-v.lowest c.note-row-lowest.result c.loop-v.invariant.1 c.note-row-lowest.ensures.lowest,
+      fold_more (noted x.cells.now) c.fill.new.self g c.loop-v.v c.loop-v.words c.note_row-lowest.new.words c.loop-v.invariant.0 c.note_row-lowest.ensures.words,
+      fold_more (lowered x.cells.now) (length x.cells.now) g c.loop-v.v c.loop-v.lowest c.note_row-lowest.result c.loop-v.invariant.1 c.note_row-lowest.ensures.lowest,
     )
 
 pub returns : goal.returns

@@ -14,43 +14,43 @@ use Rattle.runs.proofs.Accepted.{call_free}
 use Rattle.runs.proofs.Steps.{fault_is, reached_more}
 use Rattle.runs.proofs.run.Run.tile.Goals as goal
 
-pub overflow-cast-count : goal.overflow-cast-count
-overflow-cast-count g c =
+pub overflow_cast-count : goal.overflow_cast-count
+overflow_cast-count g c =
     let l = tiling_held c.args.plan.now in
     let few = size_few l.pattern.rows l.sweeps (tile_of l) c.args.number c.args.plan.now.table.sized.1 c.args.plan.now.table.counted.1 in
-    omega (arith, c.tile-points-count.ensures)
+    omega (arith, c.tile_points-count.ensures)
 
-pub overflow-add-self : goal.overflow-add-self
-overflow-add-self g c =
+pub overflow_add-self : goal.overflow_add-self
+overflow_add-self g c =
     let l = tiling_held c.args.plan.now in
     let few = size_few l.pattern.rows l.sweeps (tile_of l) c.args.number c.args.plan.now.table.sized.1 c.args.plan.now.table.counted.1 in
-    let free = call_free (sizes_held c.args.self.now) c.args.self.now.done l _ _ _ c.args.number (sym c.in-ok-check-call.ensures) in
+    let free = call_free (sizes_held c.args.self.now) c.args.self.now.done l _ _ _ c.args.number (sym c.in_ok-check_call.ensures) in
     let low : c.args.number < 64 = omega (arith, c.args.plan.now.table.counted.3, free.0) in
     let fits = points_fit c.args.self.now.done c.args.number (points_of l c.args.number) c.args.self.now.points low free.1 few c.args.self.now.few in
-    omega (arith, c.tile-points-count.ensures, fits.1)
+    omega (arith, c.tile_points-count.ensures, fits.1)
 
-pub invariant-of-self : goal.invariant-of-self
-invariant-of-self g c =
+pub invariant_of-self : goal.invariant_of-self
+invariant_of-self g c =
     let l = tiling_held c.args.plan.now in
     let few = size_few l.pattern.rows l.sweeps (tile_of l) c.args.number c.args.plan.now.table.sized.1 c.args.plan.now.table.counted.1 in
-    let free = call_free (sizes_held c.args.self.now) c.args.self.now.done l _ _ _ c.args.number (sym c.in-ok-check-call.ensures) in
+    let free = call_free (sizes_held c.args.self.now) c.args.self.now.done l _ _ _ c.args.number (sym c.in_ok-check_call.ensures) in
     let low : c.args.number < 64 = omega (arith, c.args.plan.now.table.counted.3, free.0) in
     let fits = points_fit c.args.self.now.done c.args.number (points_of l c.args.number) c.args.self.now.points low free.1 few c.args.self.now.few in
-    (c.args.self.now.counted, (rw (one_shl c.args.number 64 low, c.tile-points-count.ensures) fits.0, tt))
+    (c.args.self.now.counted, (rw (one_shl c.args.number 64 low, c.tile_points-count.ensures) fits.0, tt))
 
 pub returns : goal.returns
 returns g c =
     let m = g.K.Arithmetic.means c.args.arithmetic.now in
     let l = tiling_held c.args.plan.now in
-    let free = call_free (sizes_held c.args.self.now) c.args.self.now.done l _ _ _ c.args.number (sym c.in-ok-check-call.ensures) in
+    let free = call_free (sizes_held c.args.self.now) c.args.self.now.done l _ _ _ c.args.number (sym c.in_ok-check_call.ensures) in
     let low : c.args.number < 64 = omega (arith, c.args.plan.now.table.counted.3, free.0) in
     let same : equations_of c.new-system.result ≡ equations_with l c.args.coefficients.now c.args.right_hand_side.now = c.new-system.ensures ∙ same_equations c.args.coefficients.now c.args.right_hand_side.now c.matrix.ensures.value in
-    let answer = c.in-ok-check-call.ensures in
-    let progress = ap₂ (λ d n. record { done = bit_or c.args.self.now.done d; points = c.args.self.now.points + n }) (one_shl c.args.number 64 low) c.tile-points-count.ensures in
+    let answer = c.in_ok-check_call.ensures in
+    let progress = ap₂ (λ d n. record { done = bit_or c.args.self.now.done d; points = c.args.self.now.points + n }) (one_shl c.args.number 64 low) c.tile_points-count.ensures in
     let values = c.sweep_tile.ensures ∙ ap (λ s. tile_swept m s l c.args.number c.args.vector.now) same in
     record {
       answer = answer;
-      count = c.tile-points-count.ensures;
+      count = c.tile_points-count.ensures;
       sizes = refl;
       progress = progress;
       values = values;
@@ -60,12 +60,12 @@ returns g c =
           reached_more m l c.args.coefficients.now c.args.right_hand_side.now start calls c.args.number c.args.self.now _ c.args.vector.now c.sweep_tile.new.vector None before answer refl c.sweep_tile.auto.vector progress values;
     }
 
-pub returns-in-err-check-call : goal.returns-in-err-check-call
-returns-in-err-check-call g c =
+pub returns-in_err-check_call : goal.returns-in_err-check_call
+returns-in_err-check_call g c =
     let m = g.K.Arithmetic.means c.args.arithmetic.now in
     let l = tiling_held c.args.plan.now in
-    let answer = c.in-err-check-call.ensures in
-    let p = err_from_is_err_and c.from-residual.result c.from-residual.ensures.1 in
+    let answer = c.in_err-check_call.ensures in
+    let p = err_from_is_err_and c.from_residual.result c.from_residual.ensures.1 in
     rw (p.1, p.2) (record {
       answer = answer;
       count = tt;

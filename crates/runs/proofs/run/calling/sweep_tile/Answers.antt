@@ -14,7 +14,7 @@ loop-sweep-preserved g c =
     let l = tiling_held c.args.plan.now in
     let inside : c.loop-sweep.sweep < l.sweeps = omega (arith, c.sweeps-sweep-end.ensures.value, c.loop-sweep-test.true) in
     let rows = c.part.ensures.value ∙ cond-true _ (rows_in l c.args.number c.loop-sweep.sweep) [] (and_from _ _ (lt-ltb _ _ c.requires) (lt-ltb _ _ inside)) in
-    through_more (λ s i y. updated m (equations_of c.args.system.now) y i) (rows_in l c.args.number) c.loop-sweep.sweep c.args.vector.now c.loop-sweep.vector _ c.part.result.now c.loop-sweep.invariant rows c.update-rows.ensures
+    through_more (λ s i y. updated m (equations_of c.args.system.now) y i) (rows_in l c.args.number) c.loop-sweep.sweep c.args.vector.now c.loop-sweep.vector _ c.part.result.now c.loop-sweep.invariant rows c.update_rows.ensures
 
 pub returns : goal.returns
 returns g c =
