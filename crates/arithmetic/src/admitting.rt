@@ -15,7 +15,7 @@ fn is_bad_coefficient<K: Arithmetic>(
     e: usize,
     coefficient: K::Coefficient,
 ) -> bool
-    ensures { result ≡ bad_at (means arithmetic.now) (pattern_of matrix.now) e coefficient }
+    ensures { result ≡ bad_at (K.means arithmetic.now) (pattern_of matrix.now) e coefficient }
 {
     !arithmetic.coefficient_admissible(coefficient)
         || (matrix.is_diagonal(e) && !arithmetic.diagonal_usable(coefficient))
@@ -27,7 +27,7 @@ pub fn check_coefficients<K: Arithmetic>(
     coefficients: &[K::Coefficient],
     layer: Layer,
 ) -> Result<(), Fault>
-    ensures { result_err result ≡ coefficients_fault layer (means arithmetic.now) (pattern_of matrix.now) coefficients.now }
+    ensures { result_err result ≡ coefficients_fault layer (K.means arithmetic.now) (pattern_of matrix.now) coefficients.now }
 {
     for (e, coefficient) in coefficients.iter().enumerate() {
         if is_bad_coefficient(arithmetic, matrix, e, *coefficient) {
@@ -48,7 +48,7 @@ pub fn check_values<K: Arithmetic>(
     check: Check,
     layer: Layer,
 ) -> Result<(), Fault>
-    ensures { result_err result ≡ values_fault layer check (means arithmetic.now) values.now }
+    ensures { result_err result ≡ values_fault layer check (K.means arithmetic.now) values.now }
 {
     for (row, value) in values.iter().enumerate() {
         if !arithmetic.value_admissible(*value) {

@@ -24,7 +24,7 @@ pub fn row_value<K: Arithmetic>(
     right_hand_side: K::Value,
     vector: &[K::Value],
 ) -> K::Value
-    ensures { result ≡ row_value_of (means arithmetic.now) row (zip columns.now coefficients.now) right_hand_side vector.now }
+    ensures { result ≡ row_value_of (K.means arithmetic.now) row (zip columns.now coefficients.now) right_hand_side vector.now }
 {
     let mut acc = right_hand_side;
     let mut diagonal = None;
@@ -48,7 +48,7 @@ pub fn update<K: Arithmetic>(
     row: u32,
     vector: &mut [K::Value],
 )
-    ensures { vector.new ≡ updated (means arithmetic.now) (equations_of system.now) vector.old row }
+    ensures { vector.new ≡ updated (K.means arithmetic.now) (equations_of system.now) vector.old row }
 {
     let at = row as usize;
     if at < system.right_hand_side.len() && at < vector.len() {
@@ -72,7 +72,7 @@ pub fn sweep<K: Arithmetic>(
     system: &System<'_, K::Coefficient, K::Value>,
     vector: &mut [K::Value],
 )
-    ensures { vector.new ≡ swept (means arithmetic.now) (equations_of system.now) vector.old }
+    ensures { vector.new ≡ swept (K.means arithmetic.now) (equations_of system.now) vector.old }
 {
     for row in 0..system.matrix.rows {
         update(arithmetic, system, row, vector);
@@ -107,7 +107,7 @@ fn check_sweeping<K: Arithmetic>(
     sweeps: u32,
     vector: &[K::Value],
 ) -> Result<(), Fault>
-    ensures { result_err result ≡ sweeping_fault (means arithmetic.now) (equations_of system.now) sweeps vector.now }
+    ensures { result_err result ≡ sweeping_fault (K.means arithmetic.now) (equations_of system.now) sweeps vector.now }
 {
     check_shape(
         &system.matrix,
@@ -134,8 +134,8 @@ pub fn sweep_plainly<K: Arithmetic>(
     sweeps: u32,
     vector: &mut [K::Value],
 ) -> Result<(), Fault>
-    ensures answer { result_err result ≡ sweeping_fault (means arithmetic.now) (equations_of system.now) sweeps vector.old }
-    ensures values { vector.new ≡ unless_refused (sweeping_fault (means arithmetic.now) (equations_of system.now) sweeps vector.old) (plain (means arithmetic.now) (equations_of system.now) vector.old sweeps) vector.old }
+    ensures answer { result_err result ≡ sweeping_fault (K.means arithmetic.now) (equations_of system.now) sweeps vector.old }
+    ensures values { vector.new ≡ unless_refused (sweeping_fault (K.means arithmetic.now) (equations_of system.now) sweeps vector.old) (plain (K.means arithmetic.now) (equations_of system.now) vector.old sweeps) vector.old }
 {
     check_sweeping(arithmetic, system, sweeps, vector)?;
     for _sweep in 0..sweeps {

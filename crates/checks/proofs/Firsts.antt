@@ -1,12 +1,10 @@
 -- The first place where a test passes, and what a check makes of it. Assumes nothing.
-use Rattle.std.proofs.Common.{◌≡◌, ℕ, zero, suc, ◌+◌, ◌<◌, ◌≤◌, Bool, true, false, cond, ltb, ◌⊎◌, List, Some, None, Option, sym, refl, ap, ◌∙◌, subst, ap₂, inl, inr, arith, MatchOption}
-use Rattle.std.specs.Option.{option_or}
+use Rattle.std.proofs.Common.{◌≡◌, ℕ, zero, suc, ◌+◌, ◌<◌, ◌≤◌, Bool, true, false, cond, ltb, ◌⊎◌, Some, None, sym, refl, ap, ◌∙◌, subst, ap₂, inl, inr, arith, MatchOption}
 use Rattle.std.proofs.lemmas.Bool.{cases_eq, cond-true, cond-false, lt-ltb, le-ltb, ltb-true, ltb-false}
 use Rattle.checks.specs.declared.Check.{Check}
 use Rattle.checks.specs.declared.Layer.{Layer}
-use Rattle.checks.specs.declared.Fault.{Fault}
 use Rattle.checks.specs.Lists.{first_where, first_from}
-use Rattle.checks.specs.Verdicts.{fault_at, fault_if, lowest, first_fault, LowestIsLowest}
+use Rattle.checks.specs.Verdicts.{fault_at, fault_if, lowest, LowestIsLowest}
 
 module _ (p : ℕ → Bool) where
   from_is : (i n r : ℕ) → i ≤ r → r < i + n → ((k : ℕ) → i ≤ k → k < r → p k ≡ false) → p r ≡ true → first_from p i n ≡ r

@@ -60,7 +60,7 @@ pub(crate) fn run_prepared<'a, K: Arithmetic>(
     right_hand_side: &'a [K::Value],
     vector: &mut [K::Value],
 ) -> Result<Vec<Tile>, Failure>
-    ensures { Answers (first_fault (opening_fault (tables_in rows entries sweeps tiles tables.now layout.now) ∷ beginning_fault (means arithmetic.now) (tiling_in rows entries sweeps tiles tables.now).pattern coefficients.now right_hand_side.now vector.old ∷ [])) (λ list. (list.items ≡ tiles_of (tiling_in rows entries sweeps tiles tables.now)) × (vector.new ≡ plain (means arithmetic.now) (equations_with (tiling_in rows entries sweeps tiles tables.now) coefficients.now right_hand_side.now) vector.old sweeps)) result }
+    ensures { Answers (first_fault (opening_fault (tables_in rows entries sweeps tiles tables.now layout.now) ∷ beginning_fault (K.means arithmetic.now) (tiling_in rows entries sweeps tiles tables.now).pattern coefficients.now right_hand_side.now vector.old ∷ [])) (λ list. (list.items ≡ tiles_of (tiling_in rows entries sweeps tiles tables.now)) × (vector.new ≡ plain (K.means arithmetic.now) (equations_with (tiling_in rows entries sweeps tiles tables.now) coefficients.now right_hand_side.now) vector.old sweeps)) result }
 {
     let mut plan = Plan::built_in();
     open_tables(&mut plan, rows, entries, sweeps, tiles, tables, layout)?;

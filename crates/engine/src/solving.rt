@@ -21,7 +21,7 @@ pub fn solve<K: Arithmetic>(
     arithmetic: &K,
     problem: &Problem<'_, K::Coefficient, K::Value>,
 ) -> Result<Solution<K::Value>, Failure>
-    ensures { Answers (solving_fault (means arithmetic.now) (posed_by problem.now)) (λ s. solved_by s ≡ solved (means arithmetic.now) (posed_by problem.now)) result }
+    ensures { Answers (solving_fault (K.means arithmetic.now) (posed_by problem.now)) (λ s. solved_by s ≡ solved (K.means arithmetic.now) (posed_by problem.now)) result }
 {
     let matrix = problem.system.matrix;
     let Prepared {

@@ -24,7 +24,7 @@ fn problem_text<F: Filed + Copy, K: Arithmetic<Coefficient = F, Value = F>>(
     arithmetic: &K,
     problem: &Problem<'_, F, F>,
 ) -> Result<String, AllocError>
-    ensures { IfOk result (λ text. string_bytes text ≡ problem_text_of (means arithmetic.now) F.Filed.width F.Filed.printed (posed_by problem.now)) }
+    ensures { IfOk result (λ text. string_bytes text ≡ problem_text_of (K.means arithmetic.now) F.Filed.width F.Filed.printed (posed_by problem.now)) }
 {
     let rows = problem.system.matrix.rows;
     match solve(heap, arithmetic, problem) {
@@ -40,7 +40,7 @@ fn solve_text<F: Filed + Copy, K: Arithmetic<Coefficient = F, Value = F>>(
     arithmetic: &K,
     case: &Case<'_>,
 ) -> Result<String, AllocError>
-    ensures { IfOk result (λ text. string_bytes text ≡ solved_text (means arithmetic.now) F.Filed.width F.Filed.filed F.Filed.printed (contents_of case.now)) }
+    ensures { IfOk result (λ text. string_bytes text ≡ solved_text (K.means arithmetic.now) F.Filed.width F.Filed.filed F.Filed.printed (contents_of case.now)) }
 {
     let tables = read_tables::<F>(heap, case)?;
     let problem = pose(case, &tables);

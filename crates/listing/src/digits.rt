@@ -26,13 +26,13 @@ fn digit(d: u8) -> char
 
 // The last digit of a number.
 fn put_digit<W: fmt::Write>(f: &mut fmt::Formatter<W>, number: u64) -> fmt::Result
-    ensures { WritesOnOk write_str_gives f.old result (digit_glyph false (number % 16) ∷ []) f.new }
+    ensures { WritesOnOk W.write_str_gives f.old result (digit_glyph false (number % 16) ∷ []) f.new }
 {
     f.write_char(digit((number % 16) as u8))
 }
 
 fn put_digits<W: fmt::Write>(f: &mut fmt::Formatter<W>, number: u64, digits: u8) -> fmt::Result
-    ensures { WritesOnOk write_str_gives f.old result (hexadecimal digits number) f.new }
+    ensures { WritesOnOk W.write_str_gives f.old result (hexadecimal digits number) f.new }
 {
     if digits == 0 {
         return Ok(());
@@ -54,7 +54,7 @@ impl fmt::Display for Hexadecimal {
 pub struct ShortHexadecimal(pub u64);
 
 fn put_short<W: fmt::Write>(f: &mut fmt::Formatter<W>, number: u64, most: u8) -> fmt::Result
-    ensures { WritesOnOk write_str_gives f.old result (short_hexadecimal most number) f.new }
+    ensures { WritesOnOk W.write_str_gives f.old result (short_hexadecimal most number) f.new }
 {
     if most == 0 {
         return Ok(());

@@ -1,5 +1,5 @@
 -- The sizes: where each stands among the sizes, and what it may be. Assumes nothing.
-use Rattle.std.specs.Prelude.{ℕ, Bool, ◌||◌, Option, nat_lt}
+use Rattle.std.specs.Prelude.{ℕ, ◌||◌, Option, nat_lt}
 use Rattle.checks.specs.declared.Check.TheVariants as check
 use Rattle.checks.specs.declared.Layer.{Layer}
 use Rattle.checks.specs.declared.Fault.{Fault}

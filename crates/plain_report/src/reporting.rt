@@ -38,7 +38,7 @@ fn swept_listing<F: Filed + Copy, K: Arithmetic<Coefficient = F, Value = F>>(
     sweeps: u32,
     vector: &mut [F],
 ) -> Result<String, AllocError>
-    ensures { IfOk result (λ text. string_bytes text ≡ system_text (means arithmetic.now) F.Filed.width F.Filed.printed (equations_of system.now) sweeps vector.old) }
+    ensures { IfOk result (λ text. string_bytes text ≡ system_text (K.means arithmetic.now) F.Filed.width F.Filed.printed (equations_of system.now) sweeps vector.old) }
 {
     match sweep_plainly(arithmetic, system, sweeps, vector) {
         Ok(()) => plain_listing(heap, sweeps, vector),
@@ -52,7 +52,7 @@ fn sweep_text<F: Filed + Copy, K: Arithmetic<Coefficient = F, Value = F>>(
     arithmetic: &K,
     case: &Case<'_>,
 ) -> Result<String, AllocError>
-    ensures { IfOk result (λ text. string_bytes text ≡ swept_text (means arithmetic.now) F.Filed.width F.Filed.filed F.Filed.printed (tables_of case.now)) }
+    ensures { IfOk result (λ text. string_bytes text ≡ swept_text (K.means arithmetic.now) F.Filed.width F.Filed.filed F.Filed.printed (tables_of case.now)) }
 {
     let starts = case.starts.elements::<u32>(heap)?;
     let columns = case.columns.elements::<u32>(heap)?;

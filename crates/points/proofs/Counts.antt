@@ -1,9 +1,9 @@
 -- How many points there are, counted by tiles, by sweeps and by rows. Assumes nothing.
-use Rattle.std.proofs.Common.{◌≡◌, ℕ, zero, suc, ◌+◌, ◌*◌, ◌<◌, ◌≤◌, Bool, true, false, cond, eqb, ◌⊎◌, List, length, sum_by, count_by, sym, refl, ap, ◌∙◌, ap₂, inl, inr, mul_comm, arith}
+use Rattle.std.proofs.Common.{◌≡◌, ℕ, zero, suc, ◌+◌, ◌*◌, ◌<◌, ◌≤◌, Bool, true, false, cond, eqb, sum_by, count_by, sym, refl, ap, ◌∙◌, ap₂, inl, inr, mul_comm, arith}
 use Rattle.std.proofs.lemmas.List.Sums.{length-filter}
 use Rattle.std.proofs.lemmas.Bool.{cases_eq, cases_Bool, eq-eqb, ne_eqb, cond-true, cond-false}
 use Rattle.checks.specs.Lists.{upto}
-use Rattle.points.specs.Points.{Tiles, tile_rows, size}
+use Rattle.points.specs.Points.{Tiles, size}
 use Rattle.points.specs.Runs.{and_done, carried, updated}
 use Rattle.points.specs.Laws.{PointsAreSweeps, AllDone}
 use Rattle.points.proofs.Uptos.{sum_more, count_more}

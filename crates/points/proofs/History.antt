@@ -1,10 +1,10 @@
 -- The points that a run updates, one after the other: each at its turn, whatever the state. Assumes nothing.
-use Rattle.std.proofs.Common.{◌≡◌, ℕ, suc, ◌+◌, ◌<◌, ◌≤◌, Bool, true, false, cond, eqb, ◌⊎◌, List, [], ◌∷◌, ◌++◌, length, get_or, take, fold, sym, refl, ap, ◌∙◌, subst, inl, inr, arith}
+use Rattle.std.proofs.Common.{◌≡◌, ℕ, ◌+◌, ◌<◌, ◌≤◌, Bool, true, false, cond, eqb, List, [], ◌∷◌, length, get_or, take, fold, sym, refl, ap, ◌∙◌, subst, inl, inr, arith}
 use Rattle.std.proofs.lemmas.List.{length_push, take-append-le, take_at, get_or_append_left, get_or_at}
 use Rattle.std.proofs.lemmas.List.Sums.{fold_push, sum_by_push}
 use Rattle.std.proofs.lemmas.Bool.{cases_eq, cases_lt, cases_Bool, eq-eqb, ne_eqb, cond-true, cond-false}
 use Rattle.checks.specs.Lists.{upto}
-use Rattle.points.specs.Points.{Precedes, Tiles, Forward, Lawful, Tells, Turn, tile_rows}
+use Rattle.points.specs.Points.{Precedes, Tiles, Turn, tile_rows}
 use Rattle.points.specs.Runs.{State, through, accepts, and_done, with_tile, call, begin, run, noted, taken}
 use Rattle.points.specs.Laws.{EachAtItsTurn, AnyState}
 use Rattle.points.proofs.Turns.{bump, bump_same, bump_other}

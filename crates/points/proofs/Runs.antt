@@ -2,7 +2,7 @@
 use Rattle.std.proofs.Common.{◌≡◌, ℕ, zero, suc, ◌+◌, ◌<◌, ◌≤◌, Bool, true, false, not, ◌&&◌, ◌||◌, ltb, ◌⊎◌, List, [], ◌∷◌, fold, sym, refl, ap, ◌∙◌, subst, inl, inr, ⊎_elim, arith}
 use Rattle.std.proofs.lemmas.Bool.{cases_eq, cases_Bool, both_ways, or_cases, or_left, or_right, and_parts, and_from, not-true, not_from_false, ltb-true, lt-ltb, cond_both}
 use Rattle.checks.specs.Lists.{upto, every}
-use Rattle.points.specs.Points.{Precedes, Tiles, Forward, Lawful, Waits, Tells, Turn, size}
+use Rattle.points.specs.Points.{Precedes, Tiles, Forward, Tells, Turn, size}
 use Rattle.points.specs.Runs.{State, accepts, with_tile, call, begin, run, carried, updated, Accepted}
 use Rattle.points.specs.Laws.{AcceptsExactly, OneIsReady, WaitedForByHigher, PointsCounted}
 use Rattle.points.proofs.Uptos.{every_at, every_from}

@@ -1,9 +1,9 @@
 -- A row that is updated at its turn gets the plain sweep's value. Assumes nothing.
-use Rattle.std.proofs.Common.{◌≡◌, ℕ, zero, suc, ◌+◌, ◌<◌, ◌≤◌, Bool, true, ◌&&◌, ◌||◌, eqb, ltb, ◌⊎◌, List, [], ◌∷◌, ◌++◌, length, get_or, set, fold, sym, refl, ap, ◌∙◌, subst, inl, inr, ⊎_elim, arith, length-set, get_or-set_other, get_or-set_same}
+use Rattle.std.proofs.Common.{◌≡◌, ℕ, zero, suc, ◌<◌, ◌≤◌, Bool, true, ◌&&◌, ◌||◌, eqb, ltb, ◌⊎◌, List, length, get_or, set, fold, sym, refl, ap, ◌∙◌, subst, inl, inr, ⊎_elim, arith, length-set, get_or-set_other, get_or-set_same}
 use Rattle.std.proofs.lemmas.Bool.{cases_eq, cases_lt, cases_order, eqb-true, eq-eqb, ltb-true, lt-ltb, or_cases, or_left, or_right, and_parts, and_from}
 use Rattle.checks.specs.Lists.{upto}
-use Rattle.points.specs.Points.{Tiles, Forward, Lawful, Tells, Turn}
-use Rattle.points.specs.Runs.{run, carried}
+use Rattle.points.specs.Points.{Forward, Turn}
+use Rattle.points.specs.Runs.{run}
 use Rattle.points.specs.Sweeps.{sweep_precedes, Symmetric, in_place, plain, Local}
 use Rattle.points.specs.Laws.{EachRowPlain}
 use Rattle.points.proofs.Uptos.{folded_more}

@@ -1,8 +1,8 @@
 -- The executable tests tell who waits, and what is lawful. Assumes nothing.
-use Rattle.std.proofs.Common.{◌≡◌, ℕ, ◌<◌, ◌≤◌, Bool, true, false, not, ◌&&◌, eqb, ltb, ◌⊎◌, sym, refl, ap, ◌∙◌, inl, inr, ⊎_elim, arith}
-use Rattle.std.proofs.lemmas.Bool.{cases_lt, cases_Bool, both_ways, and_parts, and_from, not-true, not_from_false, eqb-true, eqb-false, eq-eqb, ne_eqb, ltb-true, ltb-false, lt-ltb}
+use Rattle.std.proofs.Common.{◌≡◌, ℕ, ◌<◌, ◌≤◌, Bool, true, not, ◌&&◌, eqb, ltb, inl, inr, ⊎_elim, arith}
+use Rattle.std.proofs.lemmas.Bool.{cases_lt, cases_Bool, both_ways, and_parts, and_from, not-true, not_from_false, eqb-true, eqb-false, eq-eqb, ne_eqb, ltb-true, lt-ltb}
 use Rattle.checks.specs.Lists.{upto, some}
-use Rattle.points.specs.Points.{Precedes, Tiles, Lawful, Waits, Tells, some_point, waits_by, overtaken}
+use Rattle.points.specs.Points.{some_point, overtaken}
 use Rattle.points.specs.Laws.{WaitsTold, LawfulTold}
 use Rattle.points.proofs.Uptos.{some_at, some_from}
 

@@ -49,7 +49,7 @@ fn replay_prepared<'a, F: Filed + Copy, K: Arithmetic<Coefficient = F, Value = F
     vector: &mut [F],
     calls: &[u8],
 ) -> Result<String, Failure>
-    ensures { Answers (first_fault (opening_fault (tables_in rows entries sweeps tiles tables.now layout.now) ∷ beginning_fault (means arithmetic.now) (tiling_in rows entries sweeps tiles tables.now).pattern coefficients.now right_hand_side.now vector.old ∷ [])) (λ text. string_bytes text ≡ heading_of rows sweeps tiles ++ trace (means arithmetic.now) (equations_with (tiling_in rows entries sweeps tiles tables.now) coefficients.now right_hand_side.now) (tiling_in rows entries sweeps tiles tables.now) (2 * F.Filed.width) F.Filed.printed (begun vector.old) calls.now) result }
+    ensures { Answers (first_fault (opening_fault (tables_in rows entries sweeps tiles tables.now layout.now) ∷ beginning_fault (K.means arithmetic.now) (tiling_in rows entries sweeps tiles tables.now).pattern coefficients.now right_hand_side.now vector.old ∷ [])) (λ text. string_bytes text ≡ heading_of rows sweeps tiles ++ trace (K.means arithmetic.now) (equations_with (tiling_in rows entries sweeps tiles tables.now) coefficients.now right_hand_side.now) (tiling_in rows entries sweeps tiles tables.now) (2 * F.Filed.width) F.Filed.printed (begun vector.old) calls.now) result }
 {
     let mut plan = Plan::built_in();
     open_tables(&mut plan, rows, entries, sweeps, tiles, tables, layout)?;
@@ -72,7 +72,7 @@ fn replay_problem<F: Filed + Copy, K: Arithmetic<Coefficient = F, Value = F>>(
     problem: &Problem<'_, F, F>,
     calls: &[u8],
 ) -> Result<String, Failure>
-    ensures { Answers (solving_fault (means arithmetic.now) (posed_by problem.now)) (λ text. string_bytes text ≡ problem_trace (means arithmetic.now) F.Filed.width F.Filed.printed (posed_by problem.now) calls.now) result }
+    ensures { Answers (solving_fault (K.means arithmetic.now) (posed_by problem.now)) (λ text. string_bytes text ≡ problem_trace (K.means arithmetic.now) F.Filed.width F.Filed.printed (posed_by problem.now) calls.now) result }
 {
     let matrix = problem.system.matrix;
     let Prepared {
@@ -109,7 +109,7 @@ fn problem_text<F: Filed + Copy, K: Arithmetic<Coefficient = F, Value = F>>(
     problem: &Problem<'_, F, F>,
     calls: &[u8],
 ) -> Result<String, AllocError>
-    ensures { IfOk result (λ text. string_bytes text ≡ problem_text_of (means arithmetic.now) F.Filed.width F.Filed.printed (posed_by problem.now) calls.now) }
+    ensures { IfOk result (λ text. string_bytes text ≡ problem_text_of (K.means arithmetic.now) F.Filed.width F.Filed.printed (posed_by problem.now) calls.now) }
 {
     match replay_problem(heap, arithmetic, problem, calls) {
         Ok(text) => Ok(text),
@@ -125,7 +125,7 @@ fn case_text<F: Filed + Copy, K: Arithmetic<Coefficient = F, Value = F>>(
     case: &Case<'_>,
     calls: &[u8],
 ) -> Result<String, AllocError>
-    ensures { IfOk result (λ text. string_bytes text ≡ problem_text_of (means arithmetic.now) F.Filed.width F.Filed.printed (posed_in F.Filed.width F.Filed.filed (contents_of case.now)) calls.now) }
+    ensures { IfOk result (λ text. string_bytes text ≡ problem_text_of (K.means arithmetic.now) F.Filed.width F.Filed.printed (posed_in F.Filed.width F.Filed.filed (contents_of case.now)) calls.now) }
 {
     let tables = read_tables::<F>(heap, case)?;
     let problem = pose(case, &tables);

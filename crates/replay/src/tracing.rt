@@ -24,7 +24,7 @@ pub(crate) fn trace_run<'p, F: Filed + Copy, K: Arithmetic<Coefficient = F, Valu
     vector: &mut [F],
     calls: &[u8],
 ) -> Result<(), Failure>
-    ensures { Answers (beginning_fault (means arithmetic.now) (tiling_held plan.now).pattern coefficients.now right_hand_side.now vector.old) (λ _. string_bytes text.new ≡ string_bytes text.old ++ trace (means arithmetic.now) (equations_with (tiling_held plan.now) coefficients.now right_hand_side.now) (tiling_held plan.now) (2 * F.Filed.width) F.Filed.printed (begun vector.old) calls.now) result }
+    ensures { Answers (beginning_fault (K.means arithmetic.now) (tiling_held plan.now).pattern coefficients.now right_hand_side.now vector.old) (λ _. string_bytes text.new ≡ string_bytes text.old ++ trace (K.means arithmetic.now) (equations_with (tiling_held plan.now) coefficients.now right_hand_side.now) (tiling_held plan.now) (2 * F.Filed.width) F.Filed.printed (begun vector.old) calls.now) result }
 {
     let mut run = Run::begin(arithmetic, plan, coefficients, right_hand_side, vector)?;
     for number in calls {

@@ -21,9 +21,9 @@ pub fn call_once<'p, K: Arithmetic>(
     vector: &mut [K::Value],
     number: u32,
 ) -> Result<Closing, Fault>
-    ensures answer { result_err result ≡ first_fault (beginning_fault (means arithmetic.now) (tiling_held plan.now).pattern coefficients.now right_hand_side.now vector.old ∷ tile_fault (tiling_held plan.now) (λ _. false) number ∷ []) }
+    ensures answer { result_err result ≡ first_fault (beginning_fault (K.means arithmetic.now) (tiling_held plan.now).pattern coefficients.now right_hand_side.now vector.old ∷ tile_fault (tiling_held plan.now) (λ _. false) number ∷ []) }
     ensures closing { IfOk result (λ closing. closing ≡ closing_of (tiling_held plan.now).count (advanced (tiling_held plan.now) number (record { done = 0; points = 0 }))) }
-    ensures values { vector.new ≡ unless_refused (result_err result) (tile_swept (means arithmetic.now) (equations_with (tiling_held plan.now) coefficients.now right_hand_side.now) (tiling_held plan.now) number vector.old) vector.old }
+    ensures values { vector.new ≡ unless_refused (result_err result) (tile_swept (K.means arithmetic.now) (equations_with (tiling_held plan.now) coefficients.now right_hand_side.now) (tiling_held plan.now) number vector.old) vector.old }
 {
     let mut run = Run::begin(arithmetic, plan, coefficients, right_hand_side, vector)?;
     let answer = run.tile(

@@ -20,9 +20,9 @@ pub fn points_of_one_call<'p, K: Arithmetic>(
     vector: &mut [K::Value],
     number: u32,
 ) -> Result<u32, Fault>
-    ensures answer { result_err result ≡ beginning_fault (means arithmetic.now) (tiling_held plan.now).pattern coefficients.now right_hand_side.now vector.old }
+    ensures answer { result_err result ≡ beginning_fault (K.means arithmetic.now) (tiling_held plan.now).pattern coefficients.now right_hand_side.now vector.old }
     ensures count { IfOk result (λ n. n ≡ unless_refused (tile_fault (tiling_held plan.now) (λ _. false) number) (points_of (tiling_held plan.now) number) 0) }
-    ensures values { vector.new ≡ unless_refused (first_fault (result_err result ∷ tile_fault (tiling_held plan.now) (λ _. false) number ∷ [])) (tile_swept (means arithmetic.now) (equations_with (tiling_held plan.now) coefficients.now right_hand_side.now) (tiling_held plan.now) number vector.old) vector.old }
+    ensures values { vector.new ≡ unless_refused (first_fault (result_err result ∷ tile_fault (tiling_held plan.now) (λ _. false) number ∷ [])) (tile_swept (K.means arithmetic.now) (equations_with (tiling_held plan.now) coefficients.now right_hand_side.now) (tiling_held plan.now) number vector.old) vector.old }
 {
     let mut run = Run::begin(arithmetic, plan, coefficients, right_hand_side, vector)?;
     let _ = run.tile(

@@ -20,9 +20,9 @@ pub fn run_tiles<'p, K: Arithmetic>(
     vector: &mut [K::Value],
     calls: &[u32],
 ) -> Result<Closing, Fault>
-    ensures answer { result_err result ≡ beginning_fault (means arithmetic.now) (tiling_held plan.now).pattern coefficients.now right_hand_side.now vector.old }
+    ensures answer { result_err result ≡ beginning_fault (K.means arithmetic.now) (tiling_held plan.now).pattern coefficients.now right_hand_side.now vector.old }
     ensures refused { OnErr result (vector.new ≡ vector.old) }
-    ensures law { IfOk result (λ closing. Law (means arithmetic.now) (tiling_held plan.now) coefficients.now right_hand_side.now vector.old calls.now closing vector.new) }
+    ensures law { IfOk result (λ closing. Law (K.means arithmetic.now) (tiling_held plan.now) coefficients.now right_hand_side.now vector.old calls.now closing vector.new) }
 {
     plan.stands();
     let mut run = Run::begin(arithmetic, plan, coefficients, right_hand_side, vector)?;

@@ -39,10 +39,10 @@ impl Run {
         right_hand_side: &[K::Value],
         vector: &[K::Value],
     ) -> Result<Run, Fault>
-        ensures answer { result_err result ≡ beginning_fault (means arithmetic.now) (tiling_held plan.now).pattern coefficients.now right_hand_side.now vector.now }
+        ensures answer { result_err result ≡ beginning_fault (K.means arithmetic.now) (tiling_held plan.now).pattern coefficients.now right_hand_side.now vector.now }
         ensures sizes { IfOk result (λ run. sizes_held run ≡ sizes_of (tiling_held plan.now)) }
         ensures fresh { IfOk result (λ run. progress_held run ≡ record { done = 0; points = 0 }) }
-        ensures reached { IfOk result (λ run. Reached (means arithmetic.now) (tiling_held plan.now) coefficients.now right_hand_side.now vector.now [] run vector.now) }
+        ensures reached { IfOk result (λ run. Reached (K.means arithmetic.now) (tiling_held plan.now) coefficients.now right_hand_side.now vector.now [] run vector.now) }
     {
         let matrix = plan.matrix();
         check_lengths(

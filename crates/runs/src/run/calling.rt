@@ -65,7 +65,7 @@ fn update_rows<K: Arithmetic>(
     rows: &[u32],
     vector: &mut [K::Value],
 )
-    ensures { vector.new ≡ fold (updated (means arithmetic.now) (equations_of system.now)) vector.old rows.now }
+    ensures { vector.new ≡ fold (updated (K.means arithmetic.now) (equations_of system.now)) vector.old rows.now }
 {
     for row in rows {
         update(arithmetic, system, *row, vector);
@@ -81,7 +81,7 @@ fn sweep_tile<K: Arithmetic>(
     vector: &mut [K::Value],
 )
     requires { number < (tiling_held plan.now).count }
-    ensures { vector.new ≡ tile_swept (means arithmetic.now) (equations_of system.now) (tiling_held plan.now) number vector.old }
+    ensures { vector.new ≡ tile_swept (K.means arithmetic.now) (equations_of system.now) (tiling_held plan.now) number vector.old }
 {
     for sweep in 0..plan.sweeps() {
         update_rows(arithmetic, system, plan.part(number, sweep), vector);
@@ -137,9 +137,9 @@ impl Run {
         ensures count { IfOk result (λ n. n ≡ points_of (tiling_held plan.now) number) }
         ensures sizes { sizes_held self.new ≡ sizes_held self.old }
         ensures progress { progress_held self.new ≡ unless_refused (result_err result) (advanced (tiling_held plan.now) number (progress_held self.old)) (progress_held self.old) }
-        ensures values { vector.new ≡ unless_refused (result_err result) (tile_swept (means arithmetic.now) (equations_with (tiling_held plan.now) coefficients.now right_hand_side.now) (tiling_held plan.now) number vector.old) vector.old }
-        ensures refusals { (start : List K.Value) (calls : List ℕ) → Reached (means arithmetic.now) (tiling_held plan.now) coefficients.now right_hand_side.now start calls self.old vector.old → result_err result ≡ tile_fault (tiling_held plan.now) (after (means arithmetic.now) (tiling_held plan.now) coefficients.now right_hand_side.now start calls).done number }
-        ensures history { (start : List K.Value) (calls : List ℕ) → Reached (means arithmetic.now) (tiling_held plan.now) coefficients.now right_hand_side.now start calls self.old vector.old → Reached (means arithmetic.now) (tiling_held plan.now) coefficients.now right_hand_side.now start (calls ++ number ∷ []) self.new vector.new }
+        ensures values { vector.new ≡ unless_refused (result_err result) (tile_swept (K.means arithmetic.now) (equations_with (tiling_held plan.now) coefficients.now right_hand_side.now) (tiling_held plan.now) number vector.old) vector.old }
+        ensures refusals { (start : List K.Value) (calls : List ℕ) → Reached (K.means arithmetic.now) (tiling_held plan.now) coefficients.now right_hand_side.now start calls self.old vector.old → result_err result ≡ tile_fault (tiling_held plan.now) (after (K.means arithmetic.now) (tiling_held plan.now) coefficients.now right_hand_side.now start calls).done number }
+        ensures history { (start : List K.Value) (calls : List ℕ) → Reached (K.means arithmetic.now) (tiling_held plan.now) coefficients.now right_hand_side.now start calls self.old vector.old → Reached (K.means arithmetic.now) (tiling_held plan.now) coefficients.now right_hand_side.now start (calls ++ number ∷ []) self.new vector.new }
     {
         self.check_call(
             plan,
