@@ -1,3 +1,4 @@
 pub mod Items
+pub mod Zips
 pub mod RowSteps
 pub mod SweepSteps

@@ -1,4 +1,4 @@
-use Rattle.std.proofs.Common.{◌≡◌, length, sym, ◌∙◌, arith, below_more}
+use Rattle.std.proofs.Common.{length, sym, ◌∙◌, arith, below_more}
 use Rattle.checks.specs.declared.Check.TheVariants.{Coefficient}
 use Rattle.checks.proofs.Firsts.{lowest_found, lowest_none}
 use Rattle.matrix.specs.Lent.{pattern_of}

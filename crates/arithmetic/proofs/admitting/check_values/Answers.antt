@@ -1,4 +1,4 @@
-use Rattle.std.proofs.Common.{◌≡◌, true, false, not, length, sym, ap, ◌∙◌, arith, below_more}
+use Rattle.std.proofs.Common.{not, length, sym, ap, ◌∙◌, arith, below_more}
 use Rattle.checks.proofs.Firsts.{lowest_found, lowest_none}
 use Rattle.arithmetic.specs.Admitting.{bad_value}
 use Rattle.arithmetic.proofs.Items.{passes_here}

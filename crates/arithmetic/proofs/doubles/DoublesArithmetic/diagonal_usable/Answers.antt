@@ -1,4 +1,4 @@
-use Rattle.std.proofs.Common.{◌≡◌, not, ◌&&◌, sym, refl, ap}
+use Rattle.std.proofs.Common.{not, ◌&&◌, ap}
 use lib.Ieee.{eq, ne, of_bits}
 use Rattle.std.specs.Float.{float_zero}
 use Rattle.arithmetic.proofs.doubles.DoublesArithmetic.diagonal_usable.Goals as goal
