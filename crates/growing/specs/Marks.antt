@@ -1,6 +1,6 @@
 -- Marking in place, sweep by sweep. Assumes nothing.
 use Rattle.std.specs.Prelude.{◌≡◌, ℕ, ◌+◌, ◌<◌, ◌≤◌, cond, List, map, length, nat_lt}
-use Rattle.std.specs.List.{flat_map, AllByRecursion as All}
+use Rattle.std.specs.List.{flat_map, AllByRecursion}
 use Rattle.checks.specs.Lists.{at, upto}
 use Rattle.matrix.specs.Patterns.{Pattern, row_part}
 
@@ -10,7 +10,7 @@ pub record Sound (m : Pattern) : Type 0 where
   pub begins : at m.starts 0 ≡ 0
   pub rises : (v : ℕ) → v < m.rows → at m.starts v ≤ at m.starts (v + 1)
   pub ends : at m.starts m.rows ≡ length m.columns
-  pub inside : All (λ w. w < m.rows) m.columns
+  pub inside : AllByRecursion (λ w. w < m.rows) m.columns
 
 -- the mark of an entry whose row has tile a and whose column has tile b
 abbrev pub remark : ℕ → ℕ → ℕ → ℕ

@@ -1,6 +1,6 @@
 // The marks of the entries: which of its row and its column comes before the other.
 ghost use Rattle.std.specs.Prelude.{◌≡◌, ◌<◌, length};
-ghost use Rattle.std.specs.List.{AllByRecursion as All};
+ghost use Rattle.std.specs.List.{AllByRecursion};
 ghost use Rattle.matrix.specs.Lent.{pattern_of};
 ghost use Rattle.growing.specs.Marks.{Sound, remark, remarked, remarked_all};
 
@@ -21,7 +21,7 @@ fn remark(row_tile: u8, column_tile: u8, mark: u8) -> u8
 
 fn mark_row(tiles: &[u8], row: usize, columns: &[u32], marks: &mut [u8])
     requires row { row < length tiles.now }
-    requires columns { All (λ w. w < length tiles.now) columns.now }
+    requires columns { AllByRecursion (λ w. w < length tiles.now) columns.now }
     requires marks { length marks.old ≡ length columns.now }
     ensures { marks.new ≡ remarked tiles.now row columns.now marks.old }
 {

@@ -1,6 +1,6 @@
 // Growing one sweep: pairs of rows pull on one another until nothing moves.
 ghost use Rattle.std.specs.Prelude.{◌≡◌, ◌<◌, false, length};
-ghost use Rattle.std.specs.List.{AllByRecursion as All};
+ghost use Rattle.std.specs.List.{AllByRecursion};
 ghost use Rattle.growing.specs.Passes.{Placed, Pulls, pulled, entry_step, row_step, pass, place, Settles};
 ghost use Rattle.matrix.specs.Lent.{pattern_of};
 
@@ -72,7 +72,7 @@ fn pull_row(
     requires placed { Placed growth (length tile_table.old) }
     requires row { row < growth.rows }
     requires marks { length marks.now ≡ length columns.now }
-    requires columns { All (λ w. w < growth.rows) columns.now }
+    requires columns { AllByRecursion (λ w. w < growth.rows) columns.now }
     ensures { Pulls growth (row_step growth.direction backward row columns.now marks.now) result tile_table.old tile_table.new }
 {
     let mut moved = false;
@@ -94,7 +94,7 @@ fn pass(
     requires placed { Placed growth (length tile_table.old) }
     requires rows { matrix.now.rows ≡ growth.rows }
     requires marks { length marks.now ≡ length matrix.now.columns.now }
-    requires columns { All (λ w. w < growth.rows) matrix.now.columns.now }
+    requires columns { AllByRecursion (λ w. w < growth.rows) matrix.now.columns.now }
     ensures { Pulls growth (pass growth.direction backward (pattern_of matrix.now) marks.now) result tile_table.old tile_table.new }
 {
     let rows = matrix.rows as usize;
@@ -120,7 +120,7 @@ pub(crate) fn settle(growth: Growth, tile_table: &mut [u8], matrix: &Matrix, mar
     requires placed { Placed growth (length tile_table.old) }
     requires rows { matrix.now.rows ≡ growth.rows }
     requires marks { length marks.now ≡ length matrix.now.columns.now }
-    requires columns { All (λ w. w < growth.rows) matrix.now.columns.now }
+    requires columns { AllByRecursion (λ w. w < growth.rows) matrix.now.columns.now }
     ensures { Settles growth (pattern_of matrix.now) marks.now false tile_table.old tile_table.new }
 {
     let mut backward = false;

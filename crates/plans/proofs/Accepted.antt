@@ -1,14 +1,14 @@
 -- What a matrix has whose checks pass. Assumes nothing.
-use Rattle.std.proofs.Common.{◌≡◌, ℕ, ◌+◌, ◌-◌, ◌<◌, ◌≤◌, Bool, true, false, eqb, List, [], ◌∷◌, length, drop, is_some, Some, None, count_by, Option, sym, refl, ap, ◌∙◌, subst, ⊎_elim, arith}
+use Rattle.std.proofs.Common.{◌≡◌, ℕ, ◌<◌, true, false, eqb, List, [], ◌∷◌, length, is_some, Some, None, Option, sym, refl, subst, ⊎_elim, arith}
 use Rattle.std.specs.List.{AllByRecursion as All}
 use Rattle.std.proofs.ByRecursion.{All-from_get_or, All-drop, All-take, All-get_or}
 use Rattle.std.proofs.lemmas.Bool.{both_ways, not-false, ltb-true, eqb-true, or_cases}
-use Rattle.checks.specs.declared.Check.TheVariants.{RowStart, Column, Row}
+use Rattle.checks.specs.declared.Check.TheVariants.{Column, Row}
 use Rattle.checks.specs.declared.Layer.{Layer}
 use Rattle.checks.specs.Lists.{at, some}
 use Rattle.checks.proofs.Firsts.{lowest_passed}
 use Rattle.checks.proofs.Refusals.{all_passed}
-use Rattle.matrix.specs.Patterns.{Pattern, row_part, stores, bad_start, bad_column, bad_row, starts_fault, columns_fault, rows_fault, matrix_fault}
+use Rattle.matrix.specs.Patterns.{Pattern, row_part, stores, bad_column, bad_row, starts_fault, columns_fault, rows_fault, matrix_fault}
 use Rattle.plans.proofs.Members.{counted_some}
 
 pub none_from : {X : Type 0} (o : Option X) → is_some o ≡ false → o ≡ None

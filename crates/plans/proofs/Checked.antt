@@ -15,7 +15,7 @@ use Rattle.matrix.specs.Tables.{length_fault}
 use Rattle.matrix.specs.Patterns.{matrix_fault}
 use Rattle.matrix.proofs.Passed.{size_passed, size_none, length_passed, length_none}
 use Rattle.plans.specs.Tilings.{Tiling, points_of}
-use Rattle.plans.specs.Opening.{sizes_fault, lengths_fault, bad_tile, tiles_fault, laying_out_fault}
+use Rattle.plans.specs.Opening.{bad_tile, tiles_fault, laying_out_fault}
 
 -- a tiling, and tables of these lengths, in numbers
 pub record Passes (l : Tiling) (schedule starts words : ℕ) : Type 0 where

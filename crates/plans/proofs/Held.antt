@@ -1,12 +1,11 @@
 -- What every plan that is held has passed. Assumes nothing.
-use Rattle.std.proofs.Common.{◌≡◌, ℕ, ◌+◌, ◌*◌, true, None, refl, ap, ◌∙◌, subst}
+use Rattle.std.proofs.Common.{◌≡◌, ◌+◌, ◌*◌, None, refl, ap, ◌∙◌}
 use Rattle.checks.specs.declared.Layer.TheVariants.{Plan as PlanLayer}
 use Rattle.matrix.specs.Patterns.{matrix_fault}
 use Rattle.points.specs.Points.{Lawful}
 use Rattle.plans.specs.declared.table.TileTable.{TileTable}
 use Rattle.plans.specs.declared.plan.Plan.{Plan}
-use Rattle.plans.specs.Tilings.{tile_of, precedes, lawful, schedule_of, schedule_starts_of, points_of}
-use Rattle.plans.specs.Words.{wait_words_of}
+use Rattle.plans.specs.Tilings.{tile_of, precedes, schedule_of, schedule_starts_of, points_of}
 use Rattle.plans.specs.Opening.{laying_out_fault, opening_fault, laid_out}
 use Rattle.plans.specs.Lent.{tiling_of}
 use Rattle.plans.specs.Held.{tables_from, tiling_held, tables_held}

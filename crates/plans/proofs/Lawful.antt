@@ -1,5 +1,5 @@
 -- Lawful tilings, and that what is laid out opens. Assumes nothing.
-use Rattle.std.proofs.Common.{◌≡◌, ℕ, ◌+◌, ◌*◌, ◌/◌, ◌%◌, ◌<◌, ◌≤◌, Bool, true, false, not, List, [], ◌∷◌, length, Some, None, Option, sym, refl, ap, ◌∙◌, subst, arith}
+use Rattle.std.proofs.Common.{◌≡◌, ℕ, ◌+◌, ◌*◌, ◌/◌, false, not, List, [], ◌∷◌, length, Some, None, Option, refl, ap, ◌∙◌, subst, arith}
 use Rattle.std.specs.Option.{option_or}
 use Rattle.checks.specs.declared.Fault.{Fault}
 use Rattle.std.proofs.lemmas.List.FromFn.{length-map-range_with_len}
@@ -16,12 +16,12 @@ use Rattle.points.specs.Schedules.{begins}
 use Rattle.points.proofs.Uptos.{every_at}
 use Rattle.points.proofs.Runs.{waited_for_by_higher}
 use Rattle.points.proofs.Waits.{waits_told, lawful_told}
-use Rattle.plans.specs.Tilings.{Tiling, points_of, tile_of, precedes, overtaken_at, lawful, schedule_of, schedule_starts_of, waits}
+use Rattle.plans.specs.Tilings.{Tiling, points_of, tile_of, precedes, overtaken_at, schedule_of, schedule_starts_of, waits}
 use Rattle.plans.specs.Words.{word, wait_words_of}
 use Rattle.plans.specs.Opening.{laying_out_fault, lawful_fault, starts_fault, schedule_fault, words_fault, opening_fault, differs, laid_out}
 use Rattle.plans.specs.Laws.{LawfulRises, WaitsForLower, LaidOutOpens}
 use Rattle.checks.proofs.Refusals.{all_none}
-use Rattle.plans.proofs.Checked.{Passes, passes, none_from_passes}
+use Rattle.plans.proofs.Checked.{passes, none_from_passes}
 use Rattle.plans.proofs.Places.{small, schedule_length}
 
 pub lawful_rises : LawfulRises

@@ -1,5 +1,5 @@
 -- What opening's later checks say, once the first have passed. Assumes nothing.
-use Rattle.std.proofs.Common.{◌≡◌, ℕ, ◌+◌, ◌*◌, ◌<◌, ◌≤◌, Bool, true, false, not, eqb, List, [], ◌∷◌, length, None, Option, sym, refl, ap, ◌∙◌, subst, arith}
+use Rattle.std.proofs.Common.{◌≡◌, ℕ, ◌+◌, ◌*◌, ◌<◌, ◌≤◌, true, not, List, [], ◌∷◌, length, None, Option, sym, ap, ◌∙◌, arith}
 use Rattle.std.specs.List.{AllByRecursion as All}
 use Rattle.std.specs.Option.{option_or}
 use Rattle.std.proofs.lemmas.List.{ext_get_or}
@@ -9,7 +9,7 @@ use Rattle.checks.specs.declared.Check.{Check}
 use Rattle.checks.specs.declared.Check.TheVariants.{Lawful, ScheduleStart, Schedule, WaitWord}
 use Rattle.checks.specs.declared.Layer.TheVariants.{Plan}
 use Rattle.checks.specs.declared.Fault.{Fault}
-use Rattle.checks.specs.Lists.{at, upto}
+use Rattle.checks.specs.Lists.{at}
 use Rattle.checks.specs.Verdicts.{lowest, first_fault}
 use Rattle.checks.proofs.Firsts.{lowest_passed}
 use Rattle.points.specs.Schedules.{begins}

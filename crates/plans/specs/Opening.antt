@@ -9,7 +9,7 @@ use Rattle.matrix.specs.declared.sizes.Size.TheVariants.{Rows, Entries, Sweeps, 
 use Rattle.matrix.specs.declared.tables.Table.TheVariants as table
 use Rattle.matrix.specs.Sizes.{size_fault}
 use Rattle.matrix.specs.Tables.{length_fault}
-use Rattle.matrix.specs.Patterns.{Pattern, matrix_fault}
+use Rattle.matrix.specs.Patterns.{matrix_fault}
 use Rattle.plans.specs.Tilings.{Tiling, points_of, overtaken_at, schedule_of, schedule_starts_of}
 use Rattle.plans.specs.Words.{wait_words_of}
 

@@ -1,6 +1,6 @@
 -- The pairs of points that the entries give, of which the first directly precedes the second; what each shows. Assumes nothing.
 -- A pair holds two indices of the tile table.
-use Rattle.std.specs.Prelude.{ℕ, ◌+◌, ◌*◌, ◌^◌, min, max, Bool, cond, List, [], ◌∷◌, ◌++◌, ◌==◌, bit_or, nat_lt, slice_set}
+use Rattle.std.specs.Prelude.{ℕ, ◌+◌, ◌*◌, ◌^◌, min, max, cond, List, [], ◌∷◌, ◌++◌, ◌==◌, bit_or, nat_lt, slice_set}
 use Rattle.std.specs.List.{flat_map}
 use Rattle.checks.specs.Lists.{at, upto}
 use Rattle.matrix.specs.Patterns.{row_part}

@@ -1,5 +1,5 @@
 -- Wait words: the tiles that a tile waits for, as the bits of a number. Assumes nothing.
-use Rattle.std.specs.Prelude.{◌≡◌, ℕ, ◌+◌, ◌/◌, ◌%◌, ◌^◌, ◌<◌, ◌≤◌, Bool, false, cond, List, map, sum_by, ◌==◌}
+use Rattle.std.specs.Prelude.{◌≡◌, ℕ, ◌/◌, ◌%◌, ◌^◌, ◌<◌, ◌≤◌, Bool, false, cond, List, map, sum_by, ◌==◌}
 use Rattle.checks.specs.Lists.{at, upto}
 use Rattle.plans.specs.Tilings.{Tiling, waits}
 

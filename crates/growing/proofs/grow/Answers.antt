@@ -10,7 +10,7 @@ pub grow_all-requires : goal.grow_all-requires
 grow_all-requires c =
     let m = pattern_of c.args.matrix.now in
     let t = c.args.sweeps in
-    let a = accepted m t c.args.tiles c.args.seed_sweep c.args.seed.now (length c.args.tile_table_of.now) (length c.args.marks.now) (sym c.in_ok-check.ensures) in
+    let a = accepted m t c.args.tiles c.args.seed_sweep c.args.seed.now (length c.args.tile_table.now) (length c.args.marks.now) (sym c.in_ok-check.ensures) in
     let e : t ≡ suc (t - 1) = omega (arith, a.first, a.last) in
     record { sound = a.sound; order = omega (arith, a.last); seed = a.tiles.0; cells = a.cells_are ∙ ap (λ i. i * m.rows) e ∙ suc-mul (t - 1) m.rows; marks = a.marked_are }
 
@@ -21,7 +21,7 @@ returns c =
     let k = c.args.tiles in
     let s = c.args.seed_sweep in
     let seed = c.args.seed.now in
-    let cells = length c.args.tile_table_of.now in
+    let cells = length c.args.tile_table.now in
     let marked = length c.args.marks.now in
     let none : None ≡ growing_fault m t k s seed cells marked = c.in_ok-check.ensures in
     let a = accepted m t k s seed cells marked (sym none) in
@@ -30,7 +30,7 @@ returns c =
     record {
       fault = none;
       tiled = c.grow_all.ensures.tiled k a.tiles ∙ ap (λ i. tile_table_of m i (suc (s - 1)) k seed) et ∙ ap (λ i. tile_table_of m t i k seed) es
-          ∙ ap (λ v. unless_refused v (tile_table_of m t s k seed) c.args.tile_table_of.now) none;
+          ∙ ap (λ v. unless_refused v (tile_table_of m t s k seed) c.args.tile_table.now) none;
       marked = c.grow_all.ensures.marks_are k a.tiles ∙ ap (λ i. marks m i (suc (s - 1)) k seed) et ∙ ap (λ i. marks m t i k seed) es
           ∙ ap (λ v. unless_refused v (marks m t s k seed) c.args.marks.now) none;
     }

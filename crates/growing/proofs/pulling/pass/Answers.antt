@@ -9,7 +9,7 @@ use Rattle.growing.proofs.Rows.{all_row, length_row}
 use Rattle.growing.proofs.pulling.pass.Goals as goal
 
 pub loop-i-init : goal.loop-i-init
-loop-i-init c = pulls_none c.args.growth c.args.tile_table_of.now c.requires.placed
+loop-i-init c = pulls_none c.args.growth c.args.tile_table.now c.requires.placed
 
 pub overflow_cast-row : goal.overflow_cast-row
 overflow_cast-row c = omega (arith, c.place-row.ensures.below)
@@ -21,7 +21,7 @@ pull_row-moved-requires c =
     let columns = m.columns in
     let marks = c.args.marks.now in
     record {
-      placed = subst (λ t. Placed c.args.growth t) (sym c.loop-i.auto.tile_table_of) c.requires.placed;
+      placed = subst (λ t. Placed c.args.growth t) (sym c.loop-i.auto.tile_table) c.requires.placed;
       row = omega (arith, c.place-row.ensures.below, c.requires.rows);
       marks = ap length c.row-row_marks.ensures ∙ length_row m v marks columns c.requires.marks ∙ ap length (sym c.row-columns.ensures);
       columns = subst (All (λ w. w < c.args.growth.rows)) (sym c.row-columns.ensures) (all_row m v (λ w. w < c.args.growth.rows) columns c.requires.columns);
@@ -33,11 +33,11 @@ loop-i-preserved c =
     let m = pattern_of c.args.matrix.now in
     let marks = c.args.marks.now in
     let f : List ℕ → List ℕ → ℕ → List ℕ = pass_row w.direction c.args.backward m marks in
-    let y = c.loop-i.tile_table_of in
+    let y = c.loop-i.tile_table in
     let near = near_of w y in
     let g = own_of w y in
     let v = c.place-row.result in
-    pulls_more w f c.loop-i.i _ _ c.args.tile_table_of.now y _ c.requires.placed c.loop-i.invariant
+    pulls_more w f c.loop-i.i _ _ c.args.tile_table.now y _ c.requires.placed c.loop-i.invariant
     (pulls_as w _ (λ near g. f near g c.loop-i.i) _ y _
     (ap (λ cols. row_step w.direction c.args.backward v cols c.row-row_marks.result.now near g) c.row-columns.ensures
     ∙ ap (λ mks. row_step w.direction c.args.backward v (row_part m m.columns v) mks near g) c.row-row_marks.ensures
@@ -48,7 +48,7 @@ pub returns : goal.returns
 unfolding pass
 returns c =
     let w = c.args.growth in
-    let x = c.args.tile_table_of.now in
+    let x = c.args.tile_table.now in
     let m = pattern_of c.args.matrix.now in
     let e : c.loop-i.i ≡ m.rows = omega arith in
     pulls_as w _ (pass w.direction c.args.backward m c.args.marks.now) _ x _

@@ -5,4 +5,4 @@ use Rattle.growing.specs.Passes.{Pulls, pass_row}
 use Rattle.growing.proofs.pulling.pass.Given as goal
 
 abbrev pub invariant-loop-i : goal.invariant-loop-i
-invariant-loop-i l = Pulls l.growth (λ near g. fold (pass_row l.growth.direction l.backward (pattern_of l.matrix) l.marks near) g (upto l.i)) l.moved l.initial.tile_table_of l.tile_table_of
+invariant-loop-i l = Pulls l.growth (λ near g. fold (pass_row l.growth.direction l.backward (pattern_of l.matrix) l.marks near) g (upto l.i)) l.moved l.initial.tile_table l.tile_table

@@ -22,8 +22,8 @@ returns c =
     let a = c.args.from * m.rows in
     let n : a + m.rows - a ≡ m.rows = omega arith in
     let seed = c.args.seed.now in
-    let x = put_mid a (a + m.rows - a) c.args.tile_table_of.now c.copy_from_slice.new.self in
+    let x = put_mid a (a + m.rows - a) c.args.tile_table.now c.copy_from_slice.new.self in
     let put : sweep_at m.rows x c.args.from ≡ seed =
-    ap (λ i. take i (drop a x)) (sym n) ∙ between-put_mid a (a + m.rows - a) c.args.tile_table_of.now c.copy_from_slice.new.self (a + m.rows) (omega (arith, c.requires.cells)) (ap length c.copy_from_slice.ensures.after ∙ c.requires.seed ∙ sym n) ∙ c.copy_from_slice.ensures.after in
-    filled m c.requires.sound c.args.from c.args.last c.requires.order seed x c.grow_down.new.tile_table_of _ c.fill.new.self c.mark_sweep.new.marks c.grow_down.new.marks _
+    ap (λ i. take i (drop a x)) (sym n) ∙ between-put_mid a (a + m.rows - a) c.args.tile_table.now c.copy_from_slice.new.self (a + m.rows) (omega (arith, c.requires.cells)) (ap length c.copy_from_slice.ensures.after ∙ c.requires.seed ∙ sym n) ∙ c.copy_from_slice.ensures.after in
+    filled m c.requires.sound c.args.from c.args.last c.requires.order seed x c.grow_down.new.tile_table _ c.fill.new.self c.mark_sweep.new.marks c.grow_down.new.marks _
     (omega (arith, c.requires.cells)) put (c.fill.ensures.after (λ y e. e) ∙ ap (λ i. replicate i 0) c.requires.marks) c.mark_sweep.ensures c.grow_down.ensures c.grow_up.ensures

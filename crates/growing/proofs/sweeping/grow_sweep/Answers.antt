@@ -20,8 +20,8 @@ pub returns : goal.returns
 returns c =
     let w = c.args.growth in
     let m = pattern_of c.args.matrix.now in
-    let was = c.args.tile_table_of.now in
-    let y = c.settle.new.tile_table_of in
+    let was = c.args.tile_table.now in
+    let y = c.settle.new.tile_table in
     let n : w.own + w.rows - w.own ≡ w.rows = omega arith in
     grows_one w m c.requires.sound was c.requires.placed c.copy_within.new.self y c.args.marks.now _ (omega arith) (copied w m c.requires.sound was c.requires.placed _ c.copy_within.ensures.after)
     c.settle.ensures (c.mark_sweep.ensures ∙ ap (λ i. remarked_all m (take i (drop w.own y)) c.args.marks.now) n)

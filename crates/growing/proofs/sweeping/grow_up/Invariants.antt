@@ -4,4 +4,4 @@ use Rattle.growing.specs.Sweeps.{GrownUp}
 use Rattle.growing.proofs.sweeping.grow_up.Given as goal
 
 abbrev pub invariant-loop-sweep : goal.invariant-loop-sweep
-invariant-loop-sweep l = GrownUp (pattern_of l.matrix) (suc l.last) l.from l.sweep l.initial.tile_table_of l.tile_table_of l.initial.marks l.marks
+invariant-loop-sweep l = GrownUp (pattern_of l.matrix) (suc l.last) l.from l.sweep l.initial.tile_table l.tile_table l.initial.marks l.marks

@@ -6,15 +6,15 @@ use Rattle.numbering.proofs.Remappable.{Carryable, carryable}
 use Rattle.numbering.proofs.Scattered.{Holds, next_start, holds_more, holds_all}
 use Rattle.numbering.proofs.carrying.carry_entries_back.Given as given
 use Rattle.numbering.proofs.carrying.carry_entries_back.Goals as goal
-use Rattle.numbering.proofs.carrying.carry_entries_back.Goals.{In-ok-check-entries, at·loop-row-holds, at·put-row-place-requires, at·loop-row-again, at·returns}
+use Rattle.numbering.proofs.carrying.carry_entries_back.Goals.{In_ok-check_entries}
 
-known : (g : given.Over) (c : In-ok-check_entries g) → Carryable c.args.rows c.args.entries c.args.starts.now c.args.ranks.now c.args.rows_by_rank.now (length c.args.to.now) (length c.args.from.now)
+known : (g : given.Over) (c : In_ok-check_entries g) → Carryable c.args.rows c.args.entries c.args.starts.now c.args.ranks.now c.args.rows_by_rank.now (length c.args.to.now) (length c.args.from.now)
 known g c = carryable c.args.rows c.args.entries c.args.starts.now c.args.ranks.now c.args.rows_by_rank.now (length c.args.to.now) (length c.args.from.now) (sym c.in_ok-check_entries.ensures)
 
 pub loop-row-init : goal.loop-row-init
 loop-row-init g c =
     let m = starts_pattern c.args.rows c.args.entries c.args.starts.now in
-    let k = known g (at·loop-row-holds g c).In-ok-check_entries in
+    let k = known g (goal.at.loop-row-init g c).In_ok-check_entries in
     (sym (new_start m k.fit c.args.ranks.now c.args.rows_by_rank.now k.num 0 (omega arith)), λ i h. absurd (omega arith))
 
 pub put_row-place-requires : goal.put_row-place-requires
@@ -23,7 +23,7 @@ put_row-place-requires g c =
     let rank = c.args.ranks.now in
     let row = c.args.rows_by_rank.now in
     let i = c.loop-row.row-index in
-    let k = known g (at·put_row-place-requires g c).In-ok-check_entries in
+    let k = known g (goal.at.put_row-place-requires g c).In_ok-check_entries in
     let now : i < c.args.rows = omega (arith, k.tables.placed) in
     let below = k.num.inside i now in
     record {
@@ -42,7 +42,7 @@ loop-row-preserved g c =
     let row = c.args.rows_by_rank.now in
     let from = c.args.from.now in
     let i = c.loop-row.row-index in
-    let k = known g (at·loop-row-again g c).In-ok-check_entries in
+    let k = known g (goal.at.loop-row-preserved g c).In_ok-check_entries in
     let long = k.tables.new_listed in
     let now : i < c.args.rows = omega (arith, k.tables.placed) in
     let more = holds_more m k.fit rank row k.num from long c.loop-row.to i c.loop-row.place c.put_row-place.result now (omega (arith, k.tables.listed)) c.loop-row.invariant.0 c.put_row-place.ensures.end c.loop-row.invariant.1 in (
@@ -53,7 +53,7 @@ loop-row-preserved g c =
 pub returns : goal.returns
 returns g c =
     let m = starts_pattern c.args.rows c.args.entries c.args.starts.now in
-    let k = known g (at·returns g c).In-ok-check_entries in
+    let k = known g (goal.at.returns g c).In_ok-check_entries in
     record {
       verdict = c.in_ok-check_entries.ensures;
       carried =

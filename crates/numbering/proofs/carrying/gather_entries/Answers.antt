@@ -9,20 +9,20 @@ use Rattle.numbering.proofs.carrying.gather_entries.Goals as goal
 pub put_part-requires : goal.put_part-requires
 put_part-requires g c =
     omega
-    (arith, joined_room (row_part (pattern_of c.args.matrix.now) c.args.from.now) c.args.rows.now c.loop-row.row-index 0 c.loop-row-test.true, ap length c.row_part.ensures, c.loop-row.invariant.0)
+    (arith, joined_room (row_part (pattern_of c.args.matrix.now) c.args.from.now) c.args.rows.now c.loop-row.row-index 0 c.loop-row-test.true, ap length c.row-part.ensures, c.loop-row.invariant.0)
 
 pub overflow_add-place : goal.overflow_add-place
 overflow_add-place g c =
     let part = joined_room (row_part (pattern_of c.args.matrix.now) c.args.from.now) c.args.rows.now c.loop-row.row-index 0 c.loop-row-test.true in
-    let room : c.loop-row.place + length c.row_part.result.now ≤ length c.loop-row.to = omega (arith, part, ap length c.row_part.ensures, c.loop-row.invariant.0) in
+    let room : c.loop-row.place + length c.row-part.result.now ≤ length c.loop-row.to = omega (arith, part, ap length c.row-part.ensures, c.loop-row.invariant.0) in
     search rules
 
 pub loop-row-preserved : goal.loop-row-preserved
 loop-row-preserved g c =
     let more =
     parts_more (row_part (pattern_of c.args.matrix.now) c.args.from.now) c.args.rows.now c.loop-row.to c.loop-row.row-index 0 c.loop-row.place c.loop-row-test.true c.loop-row.invariant.0
-    c.loop-row.invariant.1 (omega arith) c.row_part.result.now c.row_part.ensures in
-    (more.0, ap (take (c.loop-row.place + length c.row_part.result.now)) c.put_part.ensures ∙ more.1)
+    c.loop-row.invariant.1 (omega arith) c.row-part.result.now c.row-part.ensures in
+    (more.0, ap (take (c.loop-row.place + length c.row-part.result.now)) c.put_part.ensures ∙ more.1)
 
 pub returns : goal.returns
 returns g c =

@@ -11,7 +11,7 @@ use Rattle.numbering.proofs.remapping.move_tiles.Goals as goal
 
 pub slice_bounds-gather_rows-end : goal.slice_bounds-gather_rows-end
 slice_bounds-gather_rows-end c =
-    let h : c.loop-sweep.sweep * length c.args.rows.now + length c.args.rows.now ≤ length c.args.tile_table_of.now = omega (arith, next_sweep c.loop-sweep.sweep (length c.args.rows.now) c.args.sweeps c.loop-sweep-test.true) in
+    let h : c.loop-sweep.sweep * length c.args.rows.now + length c.args.rows.now ≤ length c.args.tile_table.now = omega (arith, next_sweep c.loop-sweep.sweep (length c.args.rows.now) c.args.sweeps c.loop-sweep-test.true) in
     search rules
 
 pub slice_bounds-gather_rows-end-in-loop-sweep : goal.slice_bounds-gather_rows-end-in-loop-sweep
@@ -25,7 +25,7 @@ loop-sweep-preserved c =
     let n = length c.args.rows.now in
     let xs = c.loop-sweep.new_tile_table in
     let ys = c.gather_rows.new.to in
-    let moved = λ (s : ℕ). carried_rows c.args.rows.now (between (s * n) (s * n + n) c.args.tile_table_of.now) in
+    let moved = λ (s : ℕ). carried_rows c.args.rows.now (between (s * n) (s * n + n) c.args.tile_table.now) in
     let fits : s * n + n ≤ length xs = omega (arith, next_sweep s n c.args.sweeps c.loop-sweep-test.true) in
     let long : length ys ≡ n = c.gather_rows.auto.to ∙ length-between xs (s * n) (s * n + n) fits ∙ omega arith in
     take-put_mid (s * n) (s * n + n - s * n) xs ys ((s + 1) * n) (omega arith) (omega arith)
@@ -36,4 +36,4 @@ returns c =
     let n = length c.args.rows.now in
     let done : c.loop-sweep.sweep ≡ c.args.sweeps = omega arith in
     sym (take_all (c.loop-sweep.sweep * n) c.loop-sweep.new_tile_table (omega (arith, ap (λ s. s * n) done)))
-    ∙ c.loop-sweep.invariant ∙ ap (λ s. remapped_tiles n s c.args.rows.now c.args.tile_table_of.now) done
+    ∙ c.loop-sweep.invariant ∙ ap (λ s. remapped_tiles n s c.args.rows.now c.args.tile_table.now) done

@@ -4,16 +4,16 @@ use Rattle.matrix.specs.Lent.{pattern_of}
 use Rattle.numbering.proofs.Fits.{length_carried}
 use Rattle.numbering.proofs.Remappable.{Remappable, remappable, entries_in_order, new_columns_below}
 use Rattle.numbering.proofs.remapping.remap.Goals as goal
-use Rattle.numbering.proofs.remapping.remap.Goals.{In-ok-check-remap, at·write-starts-requires, at·gather-entries-requires, at·rank-columns-requires, at·move-tiles-requires}
+use Rattle.numbering.proofs.remapping.remap.Goals.{In_ok-check_remap}
 
-known : (c : In-ok-check_remap) → Remappable (pattern_of c.args.matrix.now) c.args.sweeps (length c.args.tile_table_of.now) c.args.ranks.now c.args.rows_by_rank.now (length c.args.new_starts.now) (length c.args.new_columns.now) (length c.args.new_tile_table.now)
+known : (c : In_ok-check_remap) → Remappable (pattern_of c.args.matrix.now) c.args.sweeps (length c.args.tile_table.now) c.args.ranks.now c.args.rows_by_rank.now (length c.args.new_starts.now) (length c.args.new_columns.now) (length c.args.new_tile_table.now)
 known c =
-    remappable (pattern_of c.args.matrix.now) c.args.sweeps (length c.args.tile_table_of.now) c.args.ranks.now c.args.rows_by_rank.now (length c.args.new_starts.now) (length c.args.new_columns.now) (length c.args.new_tile_table.now)
+    remappable (pattern_of c.args.matrix.now) c.args.sweeps (length c.args.tile_table.now) c.args.ranks.now c.args.rows_by_rank.now (length c.args.new_starts.now) (length c.args.new_columns.now) (length c.args.new_tile_table.now)
     (sym c.in_ok-check_remap.ensures)
 
 pub write_starts-requires : goal.write_starts-requires
 write_starts-requires c =
-    let k = known (at·write_starts-requires c).In-ok-check_remap in
+    let k = known (goal.at.write_starts-requires c).In_ok-check_remap in
     let m = pattern_of c.args.matrix.now in
     record {
       room = omega (arith, k.tables.new_started, k.tables.placed);
@@ -24,18 +24,18 @@ write_starts-requires c =
 
 pub gather_entries-requires : goal.gather_entries-requires
 gather_entries-requires c =
-    let k = known (at·gather_entries-requires c).In-ok-check_remap in
+    let k = known (goal.at.gather_entries-requires c).In_ok-check_remap in
     length_carried (pattern_of c.args.matrix.now) k.fit c.args.ranks.now c.args.rows_by_rank.now k.num c.args.matrix.now.columns.now k.tables.columned ∙ sym k.tables.new_columned
 
 pub rank_columns-requires : goal.rank_columns-requires
 rank_columns-requires c =
-    let k = known (at·rank_columns-requires c).In-ok-check_remap in
+    let k = known (goal.at.rank_columns-requires c).In_ok-check_remap in
     let m = pattern_of c.args.matrix.now in
     subst (λ columns. (e : ℕ) → e < length columns → at columns e < length c.args.ranks.now) (sym c.gather_entries.ensures) (λ e l. omega (arith, new_columns_below m c.args.rows_by_rank.now k.columned e l, k.tables.ranked))
 
 pub move_tiles-requires : goal.move_tiles-requires
 move_tiles-requires c =
-    let k = known (at·move_tiles-requires c).In-ok-check_remap in
+    let k = known (goal.at.move_tiles-requires c).In_ok-check_remap in
     let same = k.tables.placed in
     record {
       tiled = k.tables.tiled ∙ ap (λ n. c.args.sweeps * n) (sym same);

@@ -3,7 +3,7 @@ use Rattle.std.proofs.lemmas.Slice.{pushed}
 use Rattle.case_file.specs.Elements.{element_count}
 use Rattle.case_file.proofs.Whole.{next_element, never_none}
 use Rattle.case_file.proofs.parts.Part.elements.Goals as goal
-use Rattle.case_file.proofs.parts.Part.elements.Goals.{in-Some+in-ok-push, in-default}
+use Rattle.case_file.proofs.parts.Part.elements.Goals.{in-Some+in_ok-push, in_default}
 
 pub loop-i-preserved : goal.loop-i-preserved
 loop-i-preserved g c =

@@ -8,7 +8,7 @@ returns c =
     let count = c.args.count in
     record {
       offsets = (refl, refl);
-      lengths = (c.split_at.ensures.front-len, c.split_at.ensures.back_len);
+      lengths = (c.split_at.ensures.front_len, c.split_at.ensures.back_len);
       parts = λ file e.
           let long : count ≡ (offset + count) - offset = omega arith in (
             c.split_at.ensures.front ∙ ap (take count) e ∙ ap (λ n. take n (drop offset file)) long,

@@ -12,7 +12,7 @@ placed file {bytes} {a} {b} {from} {to} p q e l = (p, e ∙ ap (λ n. between n 
 pub returns : goal.returns
 returns c file e =
     let h = c.args.self in
-    let long : (i : ℕ) → at c.table_lengths_of.result i ≡ at (table_lengths_of h) i = λ i. ap (λ ns. at ns i) c.table_lengths_of.ensures in
+    let long : (i : ℕ) → at c.table_lengths.result i ≡ at (table_lengths_of h) i = λ i. ap (λ ns. at ns i) c.table_lengths.ensures in
     let p1 = c.split.ensures.parts file e in
     let p2 = c.split-2.ensures.parts file p1.1 in
     let p3 = c.split-3.ensures.parts file p2.1 in

@@ -1,4 +1,4 @@
-use Rattle.std.proofs.Common.{◌≡◌, ◌*◌, length, ap, ◌∙◌, arith}
+use Rattle.std.proofs.Common.{◌*◌, length, ap, arith}
 use Rattle.points.proofs.Schedules.{begins_rises, length_schedule}
 use Rattle.plans.specs.Tilings.{tile_of}
 use Rattle.plans.specs.Held.{tiling_held}

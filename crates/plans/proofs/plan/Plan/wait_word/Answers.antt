@@ -1,4 +1,4 @@
-use Rattle.std.proofs.Common.{◌≡◌, sym, ap, ◌∙◌, arith}
+use Rattle.std.proofs.Common.{sym, ap, ◌∙◌, arith}
 use Rattle.checks.specs.Lists.{at}
 use Rattle.plans.specs.Words.{bit}
 use Rattle.plans.specs.Held.{tiling_held}

@@ -1,4 +1,4 @@
-use Rattle.std.proofs.Common.{◌≡◌, length, fold}
+use Rattle.std.proofs.Common.{◌≡◌, fold}
 use Rattle.std.specs.List.{flat_map}
 use Rattle.checks.specs.Lists.{upto}
 use Rattle.plans.specs.Pairs.{sweep_pairs, noted, lowered}

@@ -1,4 +1,4 @@
-use Rattle.std.proofs.Common.{◌≡◌, length, replicate, fold, sym, ap, ◌∙◌, arith}
+use Rattle.std.proofs.Common.{◌≡◌, length, replicate, fold, ap, ◌∙◌, arith}
 use Rattle.std.specs.List.{flat_map}
 use Rattle.checks.specs.declared.Layer.TheVariants.{Plan}
 use Rattle.checks.specs.Lists.{upto}
