@@ -1,15 +1,15 @@
 -- Two ways to update a row that agree on vectors of R values make the same runs and the same plain sweeps. Assumes nothing.
-use Rattle.std.proofs.Common.{◌≡◌, ℕ, zero, suc, ◌+◌, ◌<◌, ◌≤◌, Bool, true, false, cond, eqb, List, [], ◌∷◌, ◌++◌, length, get_or, drop, set, fold, filter, sym, refl, ap, ◌∙◌, ap₂, arith}
+use Rattle.std.proofs.Common.{◌≡◌, ℕ, zero, suc, ◌+◌, ◌<◌, ◌≤◌, Bool, true, false, cond, eqb, List, [], ◌∷◌, length, fold, filter, sym, refl, ap, ◌∙◌, arith}
 use Rattle.std.specs.List.{range_with_len, AllByRecursion as All}
 use Rattle.std.proofs.lemmas.List.{drop_more, length-set}
 use Rattle.checks.specs.Lists.{upto}
 use Rattle.points.specs.Points.{Tiles, tile_rows, size}
-use Rattle.points.specs.Runs.{State, through, accepts, and_done, with_tile, call, begin, run}
+use Rattle.points.specs.Runs.{State, accepts, and_done, with_tile, call, begin, run}
 use Rattle.points.specs.Sweeps.{in_place}
 use Rattle.points.specs.Sweeps as points
 use Rattle.points.proofs.Uptos.{folded_more}
 use Rattle.arithmetic.specs.Meanings.{Meaning}
-use Rattle.arithmetic.specs.Sweeps.{Equations, row_value_of, row_entries, updated, swept, plain}
+use Rattle.arithmetic.specs.Sweeps.{Equations, updated, swept, plain}
 use Rattle.runs.specs.Instances.{new_value, PlainIsPlain}
 
 counted_below : (a n R : ℕ) → a + n ≤ R → All (λ i. i < R) (range_with_len a n)

@@ -1,11 +1,11 @@
 -- The law of runs, from what a list of calls gives. Assumes nothing.
-use Rattle.std.proofs.Common.{◌≡◌, ℕ, zero, suc, ◌<◌, ◌≤◌, Bool, true, false, cond, not, ◌&&◌, ◌||◌, eqb, ◌⊎◌, ◌↔◌, List, [], ◌∷◌, length, get_or, None, sum_by, sym, refl, ap, ◌∙◌, subst, inl, inr, ⊎_elim, arith}
+use Rattle.std.proofs.Common.{◌≡◌, ℕ, ◌<◌, ◌≤◌, Bool, true, false, cond, not, ◌||◌, eqb, List, [], ◌∷◌, length, get_or, sym, refl, ap, ◌∙◌, subst, inl, inr, ⊎_elim, arith}
 use Rattle.std.proofs.lemmas.List.{same_lists}
 use Rattle.std.proofs.lemmas.Bool.{and_parts, and_from, or_cases, or_left, or_right, not-true, eqb-false, ne_eqb}
 use Rattle.checks.specs.Lists.{upto, every}
 use Rattle.arithmetic.specs.Meanings.{Meaning}
 use Rattle.arithmetic.specs.Sweeps.{updated, plain}
-use Rattle.points.specs.Points.{Lawful, Tells, size}
+use Rattle.points.specs.Points.{Lawful, Tells}
 use Rattle.points.specs.Runs.{State, run, carried, Accepted}
 use Rattle.points.specs.Runs as runs
 use Rattle.points.specs.Sweeps.{Symmetric, in_place}
@@ -22,8 +22,6 @@ use Rattle.runs.specs.declared.run.closing.Closing.{Closing}
 use Rattle.runs.specs.declared.run.closing.End.{End}
 use Rattle.runs.specs.declared.run.closing.End.TheVariants.{Whole, CutShort}
 use Rattle.runs.specs.Instances.{new_value}
-use Rattle.runs.specs.Calls.{sizes_of, tile_fault, points_of}
-use Rattle.runs.specs.Calls as calls_spec
 use Rattle.runs.specs.Held.{sizes_held, progress_held, equations_with, closing_of}
 use Rattle.runs.specs.Histories.{after, Reached}
 use Rattle.runs.specs.Law.{Law}

@@ -1,16 +1,13 @@
 -- A row's new value turns on the rows linked to it; the plain sweep in the words of points. Assumes nothing.
-use Rattle.std.proofs.Common.{◌≡◌, ℕ, zero, suc, ◌+◌, ◌-◌, ◌<◌, ◌≤◌, Bool, true, false, cond, not, ◌&&◌, ◌||◌, eqb, ◌⊎◌, List, [], ◌∷◌, ◌++◌, length, get_or, drop, set, None, fold, sym, refl, ap, ◌∙◌, subst, ap₂, inl, inr, ⊎_elim, arith}
-use Rattle.std.specs.List.{zip, range_with_len, AllByRecursion as All}
-use Rattle.std.proofs.lemmas.List.{drop_more, drop_all, length-set}
-use Rattle.std.proofs.lemmas.List.Sums.{fold_push}
+use Rattle.std.proofs.Common.{◌≡◌, ℕ, ◌<◌, ◌≤◌, true, cond, not, ◌&&◌, eqb, ◌⊎◌, List, [], ◌∷◌, length, get_or, drop, None, fold, sym, refl, ap, ◌∙◌, ap₂, inl, inr, arith}
+use Rattle.std.specs.List.{zip, AllByRecursion as All}
+use Rattle.std.proofs.lemmas.List.{drop_more, drop_all}
 use Rattle.std.proofs.lemmas.Bool.{cases_lt, cases_eq, eq-eqb, ne_eqb, or_left, or_right}
-use Rattle.checks.specs.Lists.{some, upto}
+use Rattle.checks.specs.Lists.{some}
 use Rattle.matrix.specs.Patterns.{Pattern, row_part, stores, linked}
-use Rattle.points.specs.Sweeps as points
-use Rattle.points.specs.Runs.{through}
 use Rattle.arithmetic.specs.Meanings.{Meaning}
-use Rattle.arithmetic.specs.Sweeps.{Equations, taken_from, with_entry, own_coefficient, finished_by, row_value_of, row_entries, placed, updated, swept, plain}
-use Rattle.runs.specs.Instances.{new_value, RowsAreLocal, PlainIsPlain}
+use Rattle.arithmetic.specs.Sweeps.{taken_from, with_entry, own_coefficient, finished_by, row_entries}
+use Rattle.runs.specs.Instances.{RowsAreLocal}
 
 -- a list's own elements stand in it
 weaken : (j : ℕ) (js ks : List ℕ) → All (λ k. some (eqb k) ks ≡ true) js → All (λ k. some (eqb k) (j ∷ ks) ≡ true) js

@@ -1,26 +1,24 @@
 -- One call more: what a tile call leaves is what the history says. Assumes nothing.
-use Rattle.std.proofs.Common.{◌≡◌, ℕ, ◌+◌, ◌^◌, ◌<◌, ◌≤◌, Bool, true, false, cond, not, ◌&&◌, ◌||◌, eqb, ltb, leb, List, [], ◌∷◌, ◌++◌, length, Some, None, fold, Option, sym, refl, ap, ◌∙◌, subst, ap₂, arith}
-use lib.Bits.{bit_or}
+use Rattle.std.proofs.Common.{◌≡◌, ℕ, ◌+◌, Bool, true, false, not, ◌&&◌, ◌||◌, eqb, ltb, leb, List, [], ◌∷◌, ◌++◌, length, Some, None, Option, sym, refl, ap, ◌∙◌, subst, ap₂, arith}
 use Rattle.std.specs.Option.{option_or}
 use Rattle.std.proofs.lemmas.List.Sums.{fold_push}
 use Rattle.std.proofs.lemmas.Bool.{cond-true, cond-false, eq-eqb, ltb-true, lt-ltb, lt-leb, and_from, and_parts, not-true}
 use Rattle.checks.specs.declared.Check.TheVariants.{Size, NoSuchTile, TileDone, TileWaiting}
 use Rattle.checks.specs.declared.Layer.TheVariants.{Run as run_layer}
 use Rattle.checks.specs.declared.Fault.{Fault}
-use Rattle.checks.specs.Lists.{upto, every}
 use Rattle.checks.specs.Verdicts.{fault_if, lowest, first_fault, unless_refused}
 use Rattle.checks.proofs.Firsts.{lowest_none, lowest_passed}
 use Rattle.checks.proofs.Refusals.{both_passed}
 use Rattle.arithmetic.specs.Meanings.{Meaning}
 use Rattle.arithmetic.specs.Sweeps.{updated}
-use Rattle.points.specs.Points.{tile_rows, size}
-use Rattle.points.specs.Runs.{State, accepts, and_done, with_tile, call, begin, run}
+use Rattle.points.specs.Points.{size}
+use Rattle.points.specs.Runs.{State, accepts, with_tile, call}
 use Rattle.points.proofs.Uptos.{every_at, every_from}
 use Rattle.plans.specs.Tilings.{Tiling, tile_of, waits}
 use Rattle.plans.specs.Words.{bit}
 use Rattle.plans.proofs.Wordbits.{bit_set, bit_zero}
 use Rattle.runs.specs.declared.run.Run.{Run}
-use Rattle.runs.specs.Calls.{Sizes, Progress, sizes_of, differing_fault, lengths_fault, tile_fault, call_fault, tile_swept, advanced}
+use Rattle.runs.specs.Calls.{Sizes, sizes_of, differing_fault, lengths_fault, tile_fault, call_fault, tile_swept, advanced}
 use Rattle.runs.specs.Held.{sizes_held, progress_held, equations_with}
 use Rattle.runs.specs.Histories.{after, Reached}
 use Rattle.runs.proofs.Accepted.{tile_free}

@@ -1,10 +1,10 @@
 -- What beginning and tile calls refuse, and what an accepted call leaves. Assumes nothing.
-use Rattle.std.specs.Prelude.{ℕ, ◌+◌, ◌^◌, Bool, not, ◌&&◌, List, [], ◌∷◌, length, fold, Option, ◌==◌, bit_or, nat_le}
+use Rattle.std.specs.Prelude.{ℕ, ◌+◌, ◌^◌, Bool, not, ◌&&◌, List, [], ◌∷◌, length, Option, ◌==◌, bit_or, nat_le}
 use Rattle.checks.specs.declared.Check.TheVariants.{Size, RightHandSide, Vector, NoSuchTile, TileDone, TileWaiting}
 use Rattle.checks.specs.declared.Layer.TheVariants.{Run}
 use Rattle.checks.specs.declared.Fault.{Fault}
 use Rattle.checks.specs.Lists.{upto, every}
-use Rattle.checks.specs.Verdicts.{fault_if, lowest, first_fault, unless_refused}
+use Rattle.checks.specs.Verdicts.{fault_if, lowest, first_fault}
 use Rattle.matrix.specs.declared.tables.Table.TheVariants.{NewCoefficients, NewRightHandSide, NewVector}
 use Rattle.matrix.specs.Tables.{length_fault}
 use Rattle.matrix.specs.Patterns.{Pattern}

@@ -1,7 +1,7 @@
 -- What a list of tile calls makes of a start. Assumes nothing.
 use Rattle.std.specs.Prelude.{◌≡◌, ℕ, List, length, None}
 use Rattle.arithmetic.specs.Meanings.{Meaning}
-use Rattle.arithmetic.specs.Sweeps.{Equations, updated}
+use Rattle.arithmetic.specs.Sweeps.{updated}
 use Rattle.points.specs.Runs.{State, run}
 use Rattle.plans.specs.Tilings.{Tiling, tile_of, waits}
 use Rattle.plans.specs.Words.{bit}

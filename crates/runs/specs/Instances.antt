@@ -1,10 +1,10 @@
 -- The rows of a system as the order of points sees them. Assumes nothing.
-use Rattle.std.specs.Prelude.{◌≡◌, ℕ, ◌<◌, List, length, slice_index_or}
+use Rattle.std.specs.Prelude.{◌≡◌, ℕ, List, length, slice_index_or}
 use Rattle.matrix.specs.Patterns.{linked}
 use Rattle.points.specs.Sweeps.{Local}
 use Rattle.points.specs.Sweeps as points
 use Rattle.arithmetic.specs.Meanings.{Meaning}
-use Rattle.arithmetic.specs.Sweeps.{Equations, row_value_of, row_entries, updated, plain}
+use Rattle.arithmetic.specs.Sweeps.{Equations, row_value_of, row_entries, plain}
 
 -- row i's new value; `b` is the right-hand side of a row that has none
 abbrev pub new_value : {C V : Type 0} → Meaning C V → Equations C V → V → ℕ → List V → V

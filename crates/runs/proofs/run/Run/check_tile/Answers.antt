@@ -1,4 +1,4 @@
-use Rattle.std.proofs.Common.{◌≡◌, ◌<◌, not, ◌&&◌, leb, sym, ap, ◌∙◌, arith}
+use Rattle.std.proofs.Common.{◌<◌, not, ◌&&◌, leb, sym, ap, ◌∙◌, arith}
 use Rattle.std.proofs.lemmas.Bool.{leb-false}
 use Rattle.checks.specs.declared.Check.TheVariants.{NoSuchTile, TileDone, TileWaiting}
 use Rattle.checks.specs.declared.Layer.TheVariants.{Run}

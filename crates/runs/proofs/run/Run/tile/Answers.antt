@@ -1,9 +1,8 @@
-use Rattle.std.proofs.Common.{◌≡◌, ◌+◌, ◌^◌, ◌<◌, ◌≤◌, false, length, Some, None, sym, refl, ap, ◌∙◌, ap₂, arith}
+use Rattle.std.proofs.Common.{◌≡◌, ◌+◌, ◌<◌, Some, None, sym, refl, ap, ◌∙◌, ap₂, arith}
 use lib.Bits.{bit_or}
 use Rattle.std.proofs.lemmas.Nat.{one_shl}
 use Rattle.std.proofs.lemmas.Result.{err_from_is_err_and}
 use Rattle.plans.specs.Tilings.{tile_of}
-use Rattle.plans.specs.Words.{bit}
 use Rattle.plans.specs.Held.{tiling_held}
 use Rattle.arithmetic.specs.Lent.{equations_of}
 use Rattle.runs.specs.Calls.{tile_swept, points_of}
@@ -36,7 +35,7 @@ invariant_of-self g c =
     let free = call_free (sizes_held c.args.self.now) c.args.self.now.done l _ _ _ c.args.number (sym c.in_ok-check_call.ensures) in
     let low : c.args.number < 64 = omega (arith, c.args.plan.now.table.counted.3, free.0) in
     let fits = points_fit c.args.self.now.done c.args.number (points_of l c.args.number) c.args.self.now.points low free.1 few c.args.self.now.few in
-    (c.args.self.now.counted, (rw (one_shl c.args.number 64 low, c.tile_points-count.ensures) fits.0, tt))
+    record { counted = c.args.self.now.counted; few = rw (one_shl c.args.number 64 low, c.tile_points-count.ensures) fits.0 }
 
 pub returns : goal.returns
 returns g c =

@@ -1,4 +1,4 @@
-use Rattle.std.proofs.Common.{◌≡◌, true, not, ◌&&◌, sym, ◌∙◌, ap₂, arith}
+use Rattle.std.proofs.Common.{◌≡◌, true, not, ◌&&◌, sym, ap₂, arith}
 use Rattle.checks.specs.declared.Check.TheVariants.{TileWaiting}
 use Rattle.checks.specs.declared.Layer.TheVariants.{Run}
 use Rattle.checks.proofs.Firsts.{lowest_found, lowest_none}
