@@ -1,15 +1,14 @@
 -- What is prepared of a problem, and that nothing is refused but what is defined. Assumes nothing.
-use Rattle.std.proofs.Common.{◌≡◌, ℕ, ◌+◌, ◌*◌, List, [], ◌∷◌, length, Some, None, vec_items, Option, sym, refl, ap, ◌∙◌, subst, ap₂}
+use Rattle.std.proofs.Common.{◌≡◌, ℕ, ◌+◌, ◌*◌, List, [], ◌∷◌, length, None, vec_items, Option, sym, ap, ◌∙◌, subst, ap₂}
 use Rattle.checks.specs.declared.Layer.TheVariants.{Plan}
 use Rattle.checks.specs.declared.Fault.{Fault}
 use Rattle.checks.specs.Verdicts.{first_fault}
 use Rattle.matrix.specs.declared.tables.Table.TheVariants.{Coefficients, Vector}
 use Rattle.matrix.specs.Tables.{length_fault}
 use Rattle.matrix.proofs.Passed.{length_none}
-use Rattle.matrix.specs.Patterns.{Pattern}
 use Rattle.growing.specs.Growing.{tile_table_of}
 use Rattle.growing.specs.Verdicts.{growing_fault}
-use Rattle.numbering.specs.Order.{lex, key, carried_rows, carried_entries}
+use Rattle.numbering.specs.Order.{lex, key}
 use Rattle.numbering.specs.Refusals.{row_checks}
 use Rattle.numbering.specs.Laws.{Numbering}
 use Rattle.numbering.proofs.Lexes.{keys_strict}

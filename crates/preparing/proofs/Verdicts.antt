@@ -1,15 +1,14 @@
 -- The verdicts of the steps, one after the other. Assumes nothing.
-use Rattle.std.proofs.Common.{◌≡◌, ℕ, ◌+◌, ◌*◌, List, [], ◌∷◌, ◌++◌, length, Some, None, Option, sym, refl, ap, ◌∙◌, ap₂}
+use Rattle.std.proofs.Common.{◌≡◌, ℕ, ◌+◌, List, [], ◌∷◌, length, None, ap, ◌∙◌, ap₂}
 use Rattle.std.specs.Option.{option_or}
 use Rattle.checks.specs.declared.Layer.TheVariants.{Plan}
-use Rattle.checks.specs.declared.Fault.{Fault}
 use Rattle.checks.specs.Verdicts.{first_fault}
 use Rattle.checks.proofs.Refusals.{both_passed, only}
 use Rattle.matrix.specs.declared.sizes.Size.TheVariants.{Rows, Entries}
 use Rattle.matrix.specs.declared.tables.Table.TheVariants.{RowStarts, Ranks, RowsByRank, Coefficients, Vector, NewCoefficients, NewVector}
 use Rattle.matrix.specs.Sizes.{size_fault}
 use Rattle.matrix.specs.Tables.{length_fault}
-use Rattle.matrix.specs.Patterns.{Pattern, starts_fault, columns_fault, rows_fault, matrix_fault}
+use Rattle.matrix.specs.Patterns.{Pattern, starts_fault, columns_fault, rows_fault}
 use Rattle.matrix.proofs.Passed.{length_passed, length_none}
 use Rattle.numbering.specs.Order.{starts_pattern}
 use Rattle.numbering.specs.Refusals.{ranks_fault, row_checks, entry_checks}

@@ -1,9 +1,7 @@
 -- One piece more of a text. Assumes nothing.
-use Rattle.std.proofs.Common.{◌≡◌, ℕ, suc, ◌+◌, ◌*◌, ◌<◌, ◌≤◌, List, [], ◌∷◌, ◌++◌, length, get_or, take, sym, ap, ◌∙◌, append_assoc, mul-le-mul_right, add-mul, one-mul, arith}
+use Rattle.std.proofs.Common.{◌≡◌, ℕ, ◌+◌, ◌*◌, ◌<◌, ◌≤◌, List, [], ◌∷◌, ◌++◌, sym, ap, ◌∙◌, append_assoc, mul-le-mul_right, add-mul, one-mul, arith}
 use Rattle.std.specs.List.{flat_map}
-use Rattle.std.proofs.lemmas.List.{flat_map_more, take_more, take_all}
-use Rattle.checks.specs.Lists.{upto}
-use Rattle.checks.proofs.Uptos.{upto_next}
+use Rattle.std.proofs.lemmas.List.{flat_map_more}
 
 module _ {X : Type 0} (piece : X → List ℕ) (start before after : List ℕ) where
   pub pieces_more : (xs : List X) (x : X) {ys : List X} → ys ≡ xs ++ x ∷ [] → before ≡ start ++ flat_map piece xs → after ≡ before ++ piece x → after ≡ start ++ flat_map piece ys

@@ -27,6 +27,7 @@ pub record Seeded : Type 0 where
 abbrev pub table_bytes : List ℕ → ℕ → List ℕ
 table_bytes file i = between (at (offsets (header_of file)) i) (at (offsets (header_of file)) (i + 1)) file
 
+-- what growing reads in the bytes of a file
 abbrev pub seeded_in : List ℕ → Seeded
 seeded_in file = record {
   sweeps = (header_of file).sweeps;
@@ -39,6 +40,7 @@ seeded_in file = record {
   seed = table_bytes file 5;
 }
 
+-- what growing reads of a case that has been read
 abbrev pub seeded_of : Case → Seeded
 seeded_of c = record {
   sweeps = c.sweeps;
@@ -51,6 +53,7 @@ seeded_of c = record {
   seed = c.seed.bytes.now;
 }
 
+-- the rows, and the entries of each, that the tables give
 abbrev pub pattern_in : Seeded → Pattern
 pattern_in x = record { rows = x.rows; entries = x.entries; starts = elements 4 big x.starts; columns = elements 4 big x.columns }
 
@@ -58,9 +61,11 @@ pattern_in x = record { rows = x.rows; entries = x.entries; starts = elements 4 
 abbrev pub grown_text : Pattern → ℕ → ℕ → ℕ → List ℕ → ℕ → ℕ → List ℕ
 grown_text m sweeps tiles seed_sweep seed cells marked = unless_fault (growing_fault m sweeps tiles seed_sweep seed cells marked) (tiles_text m.rows sweeps tiles (tile_table_of m sweeps seed_sweep tiles seed))
 
+-- what is printed of a case that has been read
 abbrev pub case_text_of : Seeded → List ℕ
 case_text_of x = grown_text (pattern_in x) x.sweeps x.tiles x.seed_sweep x.seed (x.sweeps * x.rows) x.entries
 
+-- the refusal's line of a file that cannot be read, or its case's text
 abbrev pub file_text_of : List ℕ → List ℕ
 file_text_of file = unless_fault (reading_fault file) (case_text_of (seeded_in file))
 

@@ -4,9 +4,8 @@ ghost use Rattle.std.specs.List.{flat_map};
 ghost use Rattle.tile_report.specs.Tiles.{cell, sweep_line, sweeps_text, tiles_text};
 
 use std::alloc::{AllocError, Global};
-use std::fmt;
 
-fn push_cells(text: &mut String, cells: &[u8]) -> fmt::Result
+fn push_cells(text: &mut String, cells: &[u8]) -> Result<(), AllocError>
     ensures { OnOk result (string_bytes text.new ≡ string_bytes text.old ++ flat_map cell cells.now) }
 {
     for tile in cells {
@@ -15,7 +14,7 @@ fn push_cells(text: &mut String, cells: &[u8]) -> fmt::Result
     Ok(())
 }
 
-fn push_sweep(text: &mut String, sweep: usize, cells: &[u8]) -> fmt::Result
+fn push_sweep(text: &mut String, sweep: usize, cells: &[u8]) -> Result<(), AllocError>
     ensures { OnOk result (string_bytes text.new ≡ string_bytes text.old ++ sweep_line sweep cells.now) }
 {
     write!(text, "sweep {sweep} tiles")?;
@@ -24,7 +23,12 @@ fn push_sweep(text: &mut String, sweep: usize, cells: &[u8]) -> fmt::Result
     Ok(())
 }
 
-fn push_sweeps(text: &mut String, rows: usize, table: &[u8], sweeps: usize) -> fmt::Result
+fn push_sweeps(
+    text: &mut String,
+    rows: usize,
+    table: &[u8],
+    sweeps: usize,
+) -> Result<(), AllocError>
     requires { length table.now ≡ sweeps * rows }
     ensures { OnOk result (string_bytes text.new ≡ string_bytes text.old ++ sweeps_text rows table.now sweeps) }
 {
@@ -47,8 +51,6 @@ pub(crate) fn tiles_listing(
     ensures { IfOk result (λ text. string_bytes text ≡ tiles_text rows sweeps tiles table.now) }
 {
     let mut text = format!(in heap; "rows {rows} sweeps {sweeps} tiles {tiles}\n")?;
-    match push_sweeps(&mut text, rows as usize, table, sweeps as usize) {
-        Ok(()) => Ok(text),
-        Err(_) => Err(AllocError),
-    }
+    push_sweeps(&mut text, rows as usize, table, sweeps as usize)?;
+    Ok(text)
 }

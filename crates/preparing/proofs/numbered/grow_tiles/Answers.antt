@@ -1,4 +1,4 @@
-use Rattle.std.proofs.Common.{◌≡◌, ℕ, ◌*◌, List, None, sym, ◌∙◌, ap₂}
+use Rattle.std.proofs.Common.{◌≡◌, ℕ, List, None, sym, ◌∙◌, ap₂}
 use Rattle.std.proofs.lemmas.List.{with_items_is}
 use Rattle.matrix.specs.Patterns.{Pattern}
 use Rattle.matrix.specs.Lent.{pattern_of}
@@ -16,5 +16,5 @@ returns c =
     let grown = c.in_ok-grow.ensures in
     let cells_long = c.as_mut_slice.ensures.len in (
       same_fault m c.args.sweeps c.args.tiles c.args.seed_sweep c.args.seed.now _ _ _ _ (cells_long ∙ c.in_ok-tile_table.ensures.len) (c.as_mut_slice-2.ensures.len ∙ c.in_ok-marks.ensures.len) grown.fault,
-      with_items_is c.in_ok-tile_table.tile_table_of c.grow.new.tile_table_of (c.grow.auto.tile_table_of ∙ cells_long) ∙ grown.tiled ∙ left_is (tile_table_of m c.args.sweeps c.args.seed_sweep c.args.tiles c.args.seed.now) _ grown.fault,
+      with_items_is c.in_ok-tile_table.tile_table c.grow.new.tile_table (c.grow.auto.tile_table ∙ cells_long) ∙ grown.tiled ∙ left_is (tile_table_of m c.args.sweeps c.args.seed_sweep c.args.tiles c.args.seed.now) _ grown.fault,
     )

@@ -20,11 +20,11 @@ returns c =
     let starts_long = c.as_mut_slice.ensures.len in
     let columns_long = c.as_mut_slice-2.ensures.len in
     let cells_long = c.as_mut_slice-3.ensures.len in (
-      same_checks m c.args.sweeps (length c.args.tile_table_of.now) _ _ _ _ _ _ _ ranks_are rows_are (starts_long ∙ c.in_ok-starts.ensures.len)
+      same_checks m c.args.sweeps (length c.args.tile_table.now) _ _ _ _ _ _ _ ranks_are rows_are (starts_long ∙ c.in_ok-starts.ensures.len)
           (columns_long ∙ c.in_ok-columns.ensures.len) (cells_long ∙ c.in_ok-new_table.ensures.len) done.verdict,
       (
         with_items_is c.in_ok-starts.starts c.remap.new.new_starts (c.remap.auto.new_starts ∙ starts_long) ∙ done.starts ∙ ap₂ (λ x y. (remapped m x y).starts) ranks_are rows_are,
         with_items_is c.in_ok-columns.columns c.remap.new.new_columns (c.remap.auto.new_columns ∙ columns_long) ∙ done.columns ∙ ap₂ (λ x y. (remapped m x y).columns) ranks_are rows_are,
-        with_items_is c.in_ok-new_table.new_table c.remap.new.new-tile_table (c.remap.auto.new-tile_table ∙ cells_long) ∙ done.tiles ∙ ap (λ y. remapped_tiles m.rows c.args.sweeps y c.args.tile_table_of.now) rows_are,
+        with_items_is c.in_ok-new_table.new_table c.remap.new.new_tile_table (c.remap.auto.new_tile_table ∙ cells_long) ∙ done.tiles ∙ ap (λ y. remapped_tiles m.rows c.args.sweeps y c.args.tile_table.now) rows_are,
       ),
     )

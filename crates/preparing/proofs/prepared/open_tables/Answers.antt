@@ -1,8 +1,8 @@
-use Rattle.std.proofs.Common.{◌≡◌, ℕ, List, vec_items, ap, ◌∙◌, ap₂}
+use Rattle.std.proofs.Common.{ℕ, List, vec_items, ap, ◌∙◌, ap₂}
 use Rattle.checks.specs.Verdicts.{unless_refused}
 use Rattle.matrix.specs.Patterns.{Pattern}
 use Rattle.plans.specs.Tilings.{Tiling}
-use Rattle.plans.specs.Opening.{Tables, opening_fault}
+use Rattle.plans.specs.Opening.{opening_fault}
 use Rattle.plans.specs.Held.{tables_held}
 use Rattle.preparing.specs.Renumbered.{tiling_in}
 use Rattle.preparing.proofs.prepared.open_tables.Goals as goal

@@ -1,7 +1,7 @@
-use Rattle.std.proofs.Common.{◌≡◌, vec_items, ap, ◌∙◌}
+use Rattle.std.proofs.Common.{ap, ◌∙◌}
 use Rattle.std.proofs.lemmas.Result.{err_from_is_err_and}
 use Rattle.numbering.specs.Order.{carried_rows, carried_entries}
-use Rattle.plans.specs.Tilings.{Tiling, schedule_of, schedule_starts_of}
+use Rattle.plans.specs.Tilings.{schedule_of, schedule_starts_of}
 use Rattle.plans.specs.Words.{wait_words_of}
 use Rattle.preparing.specs.Posed.{matrix_of, tiling_of}
 use Rattle.preparing.specs.Held.{posed_by}

@@ -1,4 +1,4 @@
-use Rattle.std.proofs.Common.{◌+◌, ◌*◌, ◌≤◌, length, string_bytes, arith, rules}
+use Rattle.std.proofs.Common.{◌+◌, ◌*◌, string_bytes, rules}
 use Rattle.std.specs.List.{between}
 use Rattle.checks.specs.Lists.{upto}
 use Rattle.checks.proofs.Uptos.{upto_next}
