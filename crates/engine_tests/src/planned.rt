@@ -12,8 +12,8 @@ use std::test::Fail;
 fn is_the_path(rt: &impl Abort, plan: &Plan<'_>) {
     assert!(rt; plan.rows() == 3 && plan.entries() == 7);
     assert!(rt; plan.sweeps() == 2 && plan.tiles() == 2);
-    assert!(rt; plan.part(0, 0) == [0, 1] && plan.part(0, 1) == [0]);
-    assert!(rt; plan.part(1, 0) == [2] && plan.part(1, 1) == [1, 2]);
+    assert!(rt; plan.part(0, 0) == [0, 1].as_slice() && plan.part(0, 1) == [0].as_slice());
+    assert!(rt; plan.part(1, 0) == [2].as_slice() && plan.part(1, 1) == [1, 2].as_slice());
     assert!(rt; plan.tile_points(0) == 3 && plan.tile_points(1) == 3);
     assert!(rt; plan.wait_word(0) == 0 && plan.wait_word(1) == 1);
 }
@@ -34,7 +34,7 @@ fn the_built_in_plan(rt: HostRuntime) {
     let plan = Plan::built_in();
     assert!(rt; plan.rows() == 1 && plan.entries() == 1);
     assert!(rt; plan.sweeps() == 1 && plan.tiles() == 1);
-    assert!(rt; plan.part(0, 0) == [0]);
+    assert!(rt; plan.part(0, 0) == [0].as_slice());
     assert!(rt; plan.tile_points(0) == 1 && plan.wait_word(0) == 0);
 }
 
@@ -250,7 +250,7 @@ fn one_way_opens<'a>(rt: &impl Abort, matrix: Matrix<'a>) -> Result<(), Fail> {
         &[0, 1, 1, 2, 4],
         &[0, 1],
     )?;
-    assert!(rt; plan.rows() == 2 && plan.part(1, 1) == [0, 1]);
+    assert!(rt; plan.rows() == 2 && plan.part(1, 1) == [0, 1].as_slice());
     refused(
         rt,
         matrix,
