@@ -1,5 +1,5 @@
 -- What a prepared problem comes to is its solution, and it is refused for nothing but what beginning checks. Assumes nothing.
-use Rattle.std.proofs.Common.{◌≡◌, ℕ, ◌*◌, List, [], ◌∷◌, length, None, vec_items, Option, sym, refl, ap, ◌∙◌, subst, ap₂}
+use Rattle.std.proofs.Common.{◌≡◌, ℕ, ◌*◌, List, [], ◌∷◌, length, None, vec_items, sym, ap, ◌∙◌, ap₂}
 use Rattle.std.specs.Option.{option_or}
 use Rattle.checks.specs.Verdicts.{first_fault}
 use Rattle.checks.proofs.Refusals.{all_passed, both_passed, skip}
@@ -13,9 +13,7 @@ use Rattle.runs.specs.Calls.{beginning_fault}
 use Rattle.runs.specs.Held.{equations_with}
 use Rattle.runs.proofs.Accepted.{begun_lengths, lengths_are}
 use Rattle.grown_plans.proofs.Opens.{grown_opens}
-use Rattle.preparing.specs.declared.failing.Failure.{Failure}
 use Rattle.preparing.specs.declared.prepared.Prepared.{Prepared}
-use Rattle.preparing.specs.Failing.{Fails}
 use Rattle.preparing.specs.Layouts.{tables_in}
 use Rattle.preparing.specs.Posed.{Posed, matrix_of, ranks_of, tiling_of, renumbered, start_of, preparing_fault}
 use Rattle.preparing.specs.Prepared.{Prepares}

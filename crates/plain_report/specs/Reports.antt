@@ -30,6 +30,7 @@ pub record Tables : Type 0 where
 abbrev pub table_bytes : List ℕ → ℕ → List ℕ
 table_bytes file i = between (at (offsets (header_of file)) i) (at (offsets (header_of file)) (i + 1)) file
 
+-- what stands in the bytes of a file
 abbrev pub tables_in : List ℕ → Tables
 tables_in file = record {
   sweeps = (header_of file).sweeps;
@@ -42,6 +43,7 @@ tables_in file = record {
   vector = table_bytes file 4;
 }
 
+-- what a case that has been read holds
 abbrev pub tables_of : Case → Tables
 tables_of c = record {
   sweeps = c.sweeps;
@@ -70,10 +72,12 @@ system_text m width bits s sweeps start = unless_fault (sweeping_fault m s sweep
 abbrev pub swept_text : {X : Type 0} → Meaning X X → ℕ → (List ℕ → X) → (X → ℕ) → Tables → List ℕ
 swept_text m width figure bits t = system_text m width bits (equations_in width figure t) t.sweeps (elements width figure t.vector)
 
+-- a case swept by its kind's arithmetic, with that kind's figures
 abbrev pub kind_text_of : Kind → Tables → List ℕ
 kind_text_of Doubles t = swept_text doubles 8 double double_bits t
 kind_text_of Minutes t = swept_text minutes 4 big (λ x. x) t
 
+-- a file's refusal by its header or tables, or the text of the case in it
 abbrev pub file_text_of : List ℕ → List ℕ
 file_text_of file = unless_fault (reading_fault file) (kind_text_of (kind_of (header_of file)) (tables_in file))
 

@@ -53,7 +53,7 @@ seeded_of c = record {
   seed = c.seed.bytes.now;
 }
 
--- the rows, and the entries of each, that the tables give
+-- the matrix of a case, as the bytes of its tables give it
 abbrev pub pattern_in : Seeded → Pattern
 pattern_in x = record { rows = x.rows; entries = x.entries; starts = elements 4 big x.starts; columns = elements 4 big x.columns }
 

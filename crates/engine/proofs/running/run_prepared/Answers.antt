@@ -1,4 +1,4 @@
-use Rattle.std.proofs.Common.{◌≡◌, ℕ, [], ◌∷◌, sym, ap, ◌∙◌, subst}
+use Rattle.std.proofs.Common.{◌≡◌, [], ◌∷◌, sym, ap, ◌∙◌, subst}
 use Rattle.std.proofs.lemmas.Result.{err_from_is_err_and}
 use Rattle.checks.specs.Lists.{upto}
 use Rattle.checks.proofs.Refusals.{all_none}
@@ -30,11 +30,11 @@ returns g c =
     let x = c.args.vector.now in
     let plan = c.open_tables.new.plan in
     let opened = c.in_ok-open_tables.ensures in
-    let ran = c.in_ok--closing.ensures in
+    let ran = c.in_ok-_closing.ensures in
     let held : tiling_held plan ≡ l = ap (λ t. t.tiling) (opened.held ∙ left_is _ _ opened.fault) in
     let calls = c.as_slice.ensures.value ∙ c.in_ok-calls.ensures ∙ ap (λ (t : Tiling). upto t.count) (sym held) in
-    let values = rising_plain m (tiling_held plan) cs bs x c.stands.ensures.lawful c.stands.ensures.tells c.in_ok--closing.-closing c.run_tiles.new.vector
-    (subst (λ k. Law m (tiling_held plan) cs bs x k c.in_ok--closing.-closing c.run_tiles.new.vector) calls ran.law) in (
+    let values = rising_plain m (tiling_held plan) cs bs x c.stands.ensures.lawful c.stands.ensures.tells c.in_ok-_closing._closing c.run_tiles.new.vector
+    (subst (λ k. Law m (tiling_held plan) cs bs x k c.in_ok-_closing._closing c.run_tiles.new.vector) calls ran.law) in (
       all_none (opening_fault handed ∷ beginning_fault m l.pattern cs bs x ∷ []) (sym opened.fault, (ap (λ (t : Tiling). beginning_fault m t.pattern cs bs x) (sym held) ∙ sym ran.answer, tt)),
       (c.in_ok-describe_tiles.ensures ∙ ap tiles_of held, values ∙ ap (λ (t : Tiling). plain m (equations_with t cs bs) x t.sweeps) held),
     )

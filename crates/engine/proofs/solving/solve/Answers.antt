@@ -1,11 +1,9 @@
-use Rattle.std.proofs.Common.{◌≡◌, ◌*◌, List, length, vec_items, sym, refl, ap, ◌∙◌, subst}
+use Rattle.std.proofs.Common.{◌*◌, length, vec_items, sym, ap, ◌∙◌, subst}
 use Rattle.std.proofs.lemmas.List.{with_items_is}
 use Rattle.std.proofs.lemmas.Result.{err_from_is_err_and}
-use Rattle.checks.specs.Verdicts.{first_fault}
 use Rattle.growing.specs.Verdicts.{growing_fault}
 use Rattle.checks.proofs.Refusals.{both_passed}
 use Rattle.numbering.specs.Order.{carried_rows}
-use Rattle.numbering.specs.Refusals.{row_checks}
 use Rattle.preparing.specs.Failing.{Fails}
 use Rattle.preparing.specs.Posed.{matrix_of}
 use Rattle.preparing.specs.Held.{posed_by}
