@@ -9,9 +9,8 @@ use listing::digits::{Hexadecimal, ShortHexadecimal};
 use listing::headings::heading;
 use matrix::pattern::number_at;
 use std::alloc::{AllocError, Global};
-use std::fmt;
 
-fn push_tile(text: &mut String, number: usize, tile: Tile) -> fmt::Result
+fn push_tile(text: &mut String, number: usize, tile: Tile) -> Result<(), AllocError>
     ensures { OnOk result (string_bytes text.new ≡ string_bytes text.old ++ tile_line number tile) }
 {
     let points = tile.points;
@@ -19,7 +18,7 @@ fn push_tile(text: &mut String, number: usize, tile: Tile) -> fmt::Result
     writeln!(text, "tile {number} points {points} waits {waits}")
 }
 
-fn push_tiles(text: &mut String, tiles: &[Tile]) -> fmt::Result
+fn push_tiles(text: &mut String, tiles: &[Tile]) -> Result<(), AllocError>
     ensures { OnOk result (string_bytes text.new ≡ string_bytes text.old ++ tiles_text tiles.now) }
 {
     for (number, tile) in tiles.iter().enumerate() {
@@ -28,13 +27,17 @@ fn push_tiles(text: &mut String, tiles: &[Tile]) -> fmt::Result
     Ok(())
 }
 
-fn push_row(text: &mut String, row: usize, rank: u32, bits: Hexadecimal) -> fmt::Result
+fn push_row(text: &mut String, row: usize, rank: u32, bits: Hexadecimal) -> Result<(), AllocError>
     ensures { OnOk result (string_bytes text.new ≡ string_bytes text.old ++ row_line bits.digits row rank bits.number) }
 {
     writeln!(text, "row {row} rank {rank} value {bits}")
 }
 
-fn push_rows<K: Filed + Copy>(text: &mut String, ranks: &[u32], values: &[K]) -> fmt::Result
+fn push_rows<K: Filed + Copy>(
+    text: &mut String,
+    ranks: &[u32],
+    values: &[K],
+) -> Result<(), AllocError>
     ensures { OnOk result (string_bytes text.new ≡ string_bytes text.old ++ rows_text (2 * K.Filed.width) K.Filed.printed ranks.now values.now) }
 {
     let digits = 2 * K::width() as u8;
@@ -50,7 +53,10 @@ fn push_rows<K: Filed + Copy>(text: &mut String, ranks: &[u32], values: &[K]) ->
     Ok(())
 }
 
-fn push_solution<K: Filed + Copy>(text: &mut String, solution: &Solution<K>) -> fmt::Result
+fn push_solution<K: Filed + Copy>(
+    text: &mut String,
+    solution: &Solution<K>,
+) -> Result<(), AllocError>
     ensures { OnOk result (string_bytes text.new ≡ (string_bytes text.old ++ tiles_text (solved_by solution.now).tiles) ++ rows_text (2 * K.Filed.width) K.Filed.printed (solved_by solution.now).ranks (solved_by solution.now).values) }
 {
     push_tiles(text, solution.tiles.as_slice())?;
@@ -68,8 +74,6 @@ pub fn solution_listing<K: Filed + Copy>(
     ensures { IfOk result (λ text. string_bytes text ≡ listing_text rows sweeps tiles (2 * K.Filed.width) K.Filed.printed (solved_by solution.now)) }
 {
     let mut text = heading(heap, rows, sweeps, tiles)?;
-    match push_solution(&mut text, solution) {
-        Ok(()) => Ok(text),
-        Err(_) => Err(AllocError),
-    }
+    push_solution(&mut text, solution)?;
+    Ok(text)
 }

@@ -8,9 +8,9 @@ use case_file::filed::Filed;
 use checks::Fault;
 use listing::digits::{Hexadecimal, ShortHexadecimal};
 use runs::run::closing::{Closing, End};
-use std::fmt;
+use std::alloc::AllocError;
 
-fn push_call(text: &mut String, number: u32, answer: Result<u32, Fault>) -> fmt::Result
+fn push_call(text: &mut String, number: u32, answer: Result<u32, Fault>) -> Result<(), AllocError>
     ensures { OnOk result (string_bytes text.new ≡ string_bytes text.old ++ call_line number (result_unwrap_or answer 0) (result_err answer)) }
 {
     match answer {
@@ -19,13 +19,13 @@ fn push_call(text: &mut String, number: u32, answer: Result<u32, Fault>) -> fmt:
     }
 }
 
-fn push_value(text: &mut String, bits: Hexadecimal) -> fmt::Result
+fn push_value(text: &mut String, bits: Hexadecimal) -> Result<(), AllocError>
     ensures { OnOk result (string_bytes text.new ≡ string_bytes text.old ++ value_text bits.digits (λ n. n) bits.number) }
 {
     write!(text, " {bits}")
 }
 
-fn push_bits<K: Filed + Copy>(text: &mut String, values: &[K]) -> fmt::Result
+fn push_bits<K: Filed + Copy>(text: &mut String, values: &[K]) -> Result<(), AllocError>
     ensures { OnOk result (string_bytes text.new ≡ string_bytes text.old ++ flat_map (value_text (2 * K.Filed.width) K.Filed.printed) values.now) }
 {
     let digits = 2 * K::width() as u8;
@@ -36,7 +36,7 @@ fn push_bits<K: Filed + Copy>(text: &mut String, values: &[K]) -> fmt::Result
     Ok(())
 }
 
-fn push_values<K: Filed + Copy>(text: &mut String, values: &[K]) -> fmt::Result
+fn push_values<K: Filed + Copy>(text: &mut String, values: &[K]) -> Result<(), AllocError>
     ensures { OnOk result (string_bytes text.new ≡ string_bytes text.old ++ values_line (2 * K.Filed.width) K.Filed.printed values.now) }
 {
     write!(text, "values")?;
@@ -51,14 +51,14 @@ pub(crate) fn note_call<K: Filed + Copy>(
     number: u32,
     answer: Result<u32, Fault>,
     values: &[K],
-) -> fmt::Result
+) -> Result<(), AllocError>
     ensures { OnOk result (string_bytes text.new ≡ (string_bytes text.old ++ call_line number (result_unwrap_or answer 0) (result_err answer)) ++ values_line (2 * K.Filed.width) K.Filed.printed values.now) }
 {
     push_call(text, number, answer)?;
     push_values(text, values)
 }
 
-pub(crate) fn note_closing(text: &mut String, closing: Closing) -> fmt::Result
+pub(crate) fn note_closing(text: &mut String, closing: Closing) -> Result<(), AllocError>
     ensures { OnOk result (string_bytes text.new ≡ string_bytes text.old ++ closing_line closing) }
 {
     let done = ShortHexadecimal(closing.done);

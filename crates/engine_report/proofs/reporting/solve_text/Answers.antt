@@ -6,4 +6,4 @@ use Rattle.engine_report.proofs.reporting.solve_text.Goals as goal
 pub returns : goal.returns
 returns g c =
     let m = g.K.Arithmetic.means c.args.arithmetic.now in
-    IfOk-weaker c.problem_text_of.result _ _ (λ text e. e ∙ ap (problem_text_of m g.F.Filed.width g.F.Filed.printed) (c.pose-problem.ensures ∙ c.in_ok-tables.ensures)) c.problem_text_of.ensures
+    IfOk-weaker c.problem_text.result _ _ (λ text e. e ∙ ap (problem_text_of m g.F.Filed.width g.F.Filed.printed) (c.pose-problem.ensures ∙ c.in_ok-tables.ensures)) c.problem_text.ensures

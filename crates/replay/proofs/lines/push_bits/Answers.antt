@@ -1,4 +1,4 @@
-use Rattle.std.proofs.Common.{◌≡◌, ◌*◌, [], ◌∷◌, ◌++◌, take, string_bytes, sym, ap, ◌∙◌, ap₂}
+use Rattle.std.proofs.Common.{◌*◌, [], ◌∷◌, ◌++◌, take, string_bytes, sym, ap, ◌∙◌, ap₂}
 use Rattle.std.specs.List.{flat_map}
 use Rattle.std.proofs.lemmas.List.{take_more, take_all}
 use Rattle.listing.proofs.Pieces.{pieces_more}

@@ -1,7 +1,6 @@
-use Rattle.std.proofs.Common.{◌≡◌, ◌*◌, ◌++◌, ap, ◌∙◌, ap₂}
+use Rattle.std.proofs.Common.{◌*◌, ◌++◌, ap, ◌∙◌, ap₂}
 use Rattle.listing.specs.Lines.{heading}
-use Rattle.arithmetic.specs.Sweeps.{Equations}
-use Rattle.preparing.specs.Posed.{matrix_of, tiling_of, start_of, renumbered}
+use Rattle.preparing.specs.Posed.{matrix_of, tiling_of, renumbered}
 use Rattle.preparing.specs.Held.{posed_by}
 use Rattle.preparing.proofs.Failures.{answers_as}
 use Rattle.engine.proofs.Stepwise.{l_is, equations_new, start_new, running_is}

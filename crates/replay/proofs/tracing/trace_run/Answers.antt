@@ -1,4 +1,4 @@
-use Rattle.std.proofs.Common.{◌≡◌, ◌*◌, ◌++◌, length, get_or, string_bytes, sym, refl, ap, ◌∙◌}
+use Rattle.std.proofs.Common.{◌*◌, ◌++◌, length, get_or, string_bytes, sym, refl, ap, ◌∙◌}
 use Rattle.plans.specs.Held.{tiling_held}
 use Rattle.runs.specs.Calls.{Progress, lengths_fault}
 use Rattle.runs.specs.Held.{sizes_held, progress_held, equations_with, closing_of}
