@@ -9,10 +9,7 @@ use std::alloc::{AllocError, Global};
 fn push_row(text: &mut String, row: usize, bits: Hexadecimal) -> Result<(), AllocError>
     ensures { OnOk result (string_bytes text.new ≡ string_bytes text.old ++ row_line bits.digits row bits.number) }
 {
-    match writeln!(text, "row {row} value {bits}") {
-        Ok(()) => Ok(()),
-        Err(_) => Err(AllocError),
-    }
+    writeln!(text, "row {row} value {bits}")
 }
 
 fn push_rows<K: Filed + Copy>(text: &mut String, values: &[K]) -> Result<(), AllocError>

@@ -1,4 +1,4 @@
-// Replay for callers in other languages.
+// Replay into a caller's buffer.
 ghost use Rattle.std.specs.Prelude.{◌≡◌, cond, ◌⊎◌, length};
 ghost use Rattle.std.proofs.Math.Seq.{paste};
 ghost use Rattle.replay.specs.Replays.{replayed, handed_out};
@@ -19,8 +19,7 @@ fn hand_out(text: &[u8], out: &mut [u8]) -> usize
 }
 
 // The same of a replay's text; 0 where memory is wanting.
-#[unsafe(no_mangle)]
-pub extern "C" fn curtzano_replay(heap: Global, file: &[u8], calls: &[u8], out: &mut [u8]) -> usize
+pub fn replay_into(heap: Global, file: &[u8], calls: &[u8], out: &mut [u8]) -> usize
     ensures { ((result ≡ 0) × (out.new ≡ out.old)) ⊎ ((result ≡ length (replayed file.now calls.now)) × (out.new ≡ handed_out (replayed file.now calls.now) out.old)) }
 {
     match replay(heap, file, calls) {

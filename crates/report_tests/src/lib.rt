@@ -5,7 +5,8 @@
 mod tests {
     use engine_report::reporting::report;
     use replay::replaying::replay;
-    use std::test::*;
+    use std::process::Abort;
+    use std::test::Fail;
 
     // Diagonals 2, others -1, right-hand side 4 0 8, start 0, two sweeps, seed 1 0 0 in sweep 1, two tiles.
     const DOUBLES: &[u8; 168] = b"\
@@ -22,9 +23,9 @@ mod tests {
         \x07\0\0\0\0\0\0\0\x07\0\0\0\x05\0\0\0\0\0\0\0\x05\0\0\0\x0a\xff\xff\xff\xff\xff\xff\xff\xff\xff\
         \xff\xff\xff\xff\xff\xff\xff\xff\xff\xff\xff\x01\0\0";
 
-    fn printed(rt: &HostRuntime, file: &[u8], text: &str) -> Result<(), Fail> {
+    fn printed(rt: &(impl Abort + AllocGlobal), file: &[u8], text: &str) -> Result<(), Fail> {
         let got = report(rt.alloc(), file)?;
-        assert_eq!(got.as_str(), text);
+        assert_eq!(rt; got.as_str(), text);
         Ok(())
     }
 
@@ -47,7 +48,12 @@ mod tests {
     }
 
     // The line printed of the doubles with one byte changed.
-    fn changed(rt: &HostRuntime, at: usize, byte: u8, text: &str) -> Result<(), Fail> {
+    fn changed(
+        rt: &(impl Abort + AllocGlobal),
+        at: usize,
+        byte: u8,
+        text: &str,
+    ) -> Result<(), Fail> {
         let mut file = *DOUBLES;
         if at < file.len() {
             file[at] = byte;
