@@ -96,9 +96,11 @@ def main():
         known = fields if m.group(1) else declared
         return m.group(1) + (respelled(m.group(2)) if m.group(2) in known else m.group(2))
 
+    def respell(piece):
+        return re.sub(r"\b(\w+) as \1\b", r"\1", TOKEN.sub(turn, piece))
+
     for path, cut in texts.items():
-        text = "\n".join("".join(TOKEN.sub(turn, p) if code else p for p, code in line) for line in cut)
-        text = re.sub(r"\b(\w+) as \1\b", r"\1", text)
+        text = "\n".join("".join(respell(p) if code else p for p, code in line) for line in cut)
         with open(path, "w", encoding="utf-8") as f:
             f.write(text)
 

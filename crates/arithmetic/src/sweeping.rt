@@ -127,7 +127,7 @@ fn check_sweeping<K: Arithmetic>(
     check_values(arithmetic, vector, Check::Vector, Layer::Run)
 }
 
-// Sweeps the vector plainly, or refuses and leaves it was.
+// Sweeps the vector plainly, or refuses and leaves it as it was.
 pub fn sweep_plainly<K: Arithmetic>(
     arithmetic: &K,
     system: &System<'_, K::Coefficient, K::Value>,

@@ -1,5 +1,5 @@
 // What a plan holds, with what its checks make known of it. Sweeps are counted from 0 here.
-ghost use Rattle.std.specs.Prelude.{◌≡◌, ℕ, ◌+◌, ◌*◌, ◌<◌, ◌≤◌, false, ◌&&◌, ltb, [], length, is_some, if◌then◌else◌, None, nat_lt};
+ghost use Rattle.std.specs.Prelude.{◌≡◌, ℕ, ◌+◌, ◌*◌, ◌<◌, ◌≤◌, false, ◌&&◌, [], length, is_some, if◌then◌else◌, None, nat_lt};
 ghost use Rattle.checks.specs.declared.Layer.TheVariants.{Plan as PlanLayer};
 ghost use Rattle.checks.specs.Lists.{at};
 ghost use Rattle.matrix.specs.Patterns.{matrix_fault};
@@ -64,7 +64,7 @@ impl<'a> Plan<'a> {
 
     // The rows that a tile has in a sweep, rising; none if there is no such tile or sweep.
     pub fn part(&self, tile: u32, sweep: u32) -> &'a [u32]
-        ensures value { result.now ≡ (if ltb tile (tiling_held self.now).count && nat_lt sweep (tiling_held self.now).sweeps then rows_in (tiling_held self.now) tile sweep else []) }
+        ensures value { result.now ≡ (if nat_lt tile (tiling_held self.now).count && nat_lt sweep (tiling_held self.now).sweeps then rows_in (tiling_held self.now) tile sweep else []) }
         ensures below { (i : ℕ) → i < length result.now → at result.now i < (tiling_held self.now).pattern.rows }
     {
         if tile >= self.table.tiles || sweep >= self.table.sweeps {
