@@ -1,18 +1,30 @@
 #!/usr/bin/env python3
-"""Runs the programs under target/bin over random cases and compares every byte with the reference.
+"""Runs the programs over random cases and compares every byte with the reference.
 
     tests/compare.py COUNT [SEED]
 """
 import random
 import subprocess
 import sys
+import tempfile
 from pathlib import Path
+
+sys.dont_write_bytecode = True  # no __pycache__ in the checkout
 
 import plain_sweep
 import random_cases
 import reference
 
-BIN = Path(__file__).resolve().parent.parent / "target" / "bin"
+CRATES = Path(__file__).resolve().parent.parent / "crates"
+
+
+def built(name):
+    """The path of a program, which rt run builds where it is missing or old."""
+    with (CRATES / name / "stdin").open("rb") as given:
+        done = subprocess.run(["rt", "run"], cwd=CRATES / name, stdin=given, stdout=subprocess.DEVNULL, stderr=subprocess.PIPE, text=True)
+    if done.returncode != 0:
+        sys.exit(f"{done.stderr}rt run of {name} fails")
+    return CRATES / name / "out" / name
 
 
 def tiles(data):
@@ -36,14 +48,16 @@ PROGRAMS = {"curtzano": reference.listing, "plain_sweep": plain_sweep.listing, "
 def main():
     count = int(sys.argv[1])
     rng = random.Random(int(sys.argv[2]) if len(sys.argv) > 2 else 1)
+    paths = {name: built(name) for name in PROGRAMS}
     refused = 0
     for n in range(count):
         data = random_cases.case(rng)
         for name, expected in PROGRAMS.items():
-            got = subprocess.run([BIN / name], input=data, stdout=subprocess.PIPE, check=True).stdout.decode()
+            got = subprocess.run([paths[name]], input=data, stdout=subprocess.PIPE, check=True).stdout.decode()
             if got != expected(data):
-                (BIN / "differs.case").write_bytes(data)
-                sys.exit(f"{name} differs at case {n}, kept as target/bin/differs.case")
+                kept = Path(tempfile.mkdtemp(prefix="differs")) / f"{name}.case"
+                kept.write_bytes(data)
+                sys.exit(f"{name} differs at case {n}, kept as {kept}")
         refused += expected(data).startswith("refused")
     print(f"{count} cases, {refused} of them refused: {', '.join(PROGRAMS)} agree with the reference")
 

@@ -2,6 +2,8 @@
 """Sweeps a case plainly, rows in the order of the file: prints what the program plain_sweep prints. Reads standard input."""
 import sys
 
+sys.dont_write_bytecode = True  # no __pycache__ in the checkout
+
 from reference import Case, Refused, Rows, check_matrix, printed
 
 
