@@ -125,7 +125,7 @@ fn require_same(program: &str, expected: &str, found: &[u8]) -> Answer<()> {
 }
 
 fn program_path(root: &Path, program: &str) -> PathBuf {
-    root.join("target/bin").join(program)
+    root.join("crates").join(program).join("out").join(program)
 }
 
 fn run_program(path: &Path, input: &[u8]) -> Answer<Vec<u8>> {
