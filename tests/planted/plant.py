@@ -5,13 +5,15 @@
 
 A bug that is still proved is a hole in a contract. Since a proof sees no more of another function than its contract, bugs of
 functions that do not reach each other by calls are checked in one go, and the prover's line for each function is its bug's
-answer; one that seems to survive is tried again alone. All is done in a copy of the repository: a DIR given keeps what has been
-proved there for the next run, and what the prover said of each bug in DIR/logs.
+answer; one that seems to survive is tried again alone. All is done in a copy of the repository, whose checks begin with what was
+kept by a check in this checkout: a DIR given keeps what has been proved there for the next run, and what the prover said of each
+bug in DIR/logs. Each check has two jobs, so two runs of this script fill four processors.
 """
 import argparse
 import os
 import re
 import shutil
+import signal
 import subprocess
 import sys
 import tempfile
@@ -23,9 +25,9 @@ ROOT = HERE.parent.parent
 LIMIT = 900  # seconds for one check
 
 FN = re.compile(r"( *)(?:pub(?:\(crate\))? )?fn (\w+)")
-IMPL = re.compile(r"(?:pub )?impl(?:<.*?>)? (?:.* as (\w+)|(\w+).*) \{")
+IMPL = re.compile(r"impl(?:<.*?>)? (?:(?:\w+::)*(\w+)(?:<.*>)? for )?(\w+).* \{")
 # What the prover says where a proof names something that the edited code no longer has: that refusal shows little.
-NAMES = re.compile(r"has no (field|`)|not in scope|rattle does not read")
+NAMES = re.compile(r"has no (field|`)|is not in scope|was not admitted|rattle does not read")
 
 
 class Bug:
@@ -58,19 +60,20 @@ def read_bugs(crate):
 def functions_of(file, text):
     """The functions of a source file: the end of the path that the prover prints, where the text begins and ends, and the text."""
     module = "::".join(part for part in Path(file).with_suffix("").parts[1:] if part != "lib")
-    found, at, impl, open_fn = [], 0, None, None
+    found, at, impl, open_fn, body = [], 0, None, None, False
     for line in text.splitlines(keepends=True):
         if match := IMPL.match(line):
-            impl = match[1] or match[2]
-        elif line.startswith("}") and open_fn is None:
-            impl = None
+            # the prover's name of an impl: U32Filed is that of Filed for u32
+            impl = match[2][0].upper() + match[2][1:] + match[1] if match[1] else match[2]
         if open_fn is None and (match := FN.match(line)):
-            open_fn = (f"{impl or module}::{match[2]}".removeprefix("::"), at, match[1])
+            above = impl if match[1] else module
+            open_fn, body = (f"{above}::{match[2]}".removeprefix("::"), at, match[1]), False
+        body = body or line.rstrip().endswith("{")
         if open_fn and (line.rstrip() == open_fn[2] + "}" or re.match(r" *(\{\}|.*\{\})$", line)):
             found.append((open_fn[0], open_fn[1], at + len(line), text[open_fn[1]:at + len(line)]))
-            if open_fn[2] == "":
-                impl = None
             open_fn = None
+        elif open_fn and not body and line.rstrip().endswith(";"):
+            open_fn = None  # a trait's function without a body
         at += len(line)
     return found
 
@@ -134,18 +137,21 @@ def batches(bugs, calls):
 
 
 def check(scratch, crate, log):
-    """Checks a crate over its incremental folder: proved, refused or bad, and what was printed."""
+    """Checks a crate over what is kept in its folder out/: proved, refused or bad, and what was printed."""
     log.parent.mkdir(parents=True, exist_ok=True)
     with log.open("w") as out:
+        run = subprocess.Popen(["rt", "check", "--jobs", "2"], cwd=scratch / "crates" / crate, stdout=out, stderr=subprocess.STDOUT,
+                               start_new_session=True)
         try:
-            done = subprocess.run(["rt", "dev", crate], cwd=scratch, stdout=out, stderr=subprocess.STDOUT, timeout=LIMIT,
-                                  env={**os.environ, "RT_JOBS": "1", "RT_CUT": "0"})
+            status = run.wait(LIMIT)
         except subprocess.TimeoutExpired:
+            os.killpg(run.pid, signal.SIGTERM)
+            run.wait()
             return "bad", f"no answer in {LIMIT} s"
     text = log.read_text()
-    if done.returncode == 0 and re.search(r"^logic=proved ", text, re.M):
+    if status == 0 and re.search(r"^logic=proved ", text, re.M):
         return "proved", text
-    if done.returncode == 1 and re.search(r"^logic=not-proved", text, re.M):
+    if status == 1 and re.search(r"^logic=not-proved", text, re.M):
         return "refused", text
     return "bad", text
 
@@ -178,7 +184,7 @@ def line_of(function, text):
 def names_only(function, text):
     """Whether every error in the function's proof is a name that the code no longer has, and no fact failed."""
     folder = function.replace("::", "/")
-    errors = [e for e in re.findall(r"^\S+: error: .*(?:\n  .*)*", text, re.M) if f"{folder}/" in e.split(": error")[0].replace("/+", "/")]
+    errors = [e for e in re.findall(r"^\S+: error: .*(?:\n  .*)*", text, re.M) if f"{folder}/" in e.split(": error")[0]]
     return bool(errors) and all(NAMES.search(error) for error in errors)
 
 
@@ -190,7 +196,7 @@ def ask(scratch, batch, seconds):
     answers, again = [], []
     for bug in batch:
         said = line_of(bug.function, text) if bug.function else ""
-        if answer == "refused" and re.match(r"not proved|no proof: (?!it calls)|could not tell", said):
+        if answer == "refused" and re.match(r"not proved$|no proof: expected|could not tell", said):
             answers.append((bug, "refused", bug.function + (" NAMES" if names_only(bug.function, text) else "")))
         elif len(batch) == 1:
             first = next((line for line in text.splitlines() if "error" in line), text[:200])
@@ -229,6 +235,15 @@ def try_crate(scratch, crate, only, alone):
     return crate, len(bugs), *counts.values(), sum(seconds) / max(1, len(bugs))
 
 
+def copied(scratch):
+    """Copies the crates; what was proved in the copy before stays in its folders out/."""
+    for old in (scratch / "crates").glob("*/*"):
+        if old.name != "out":
+            shutil.rmtree(old) if old.is_dir() else old.unlink()
+    shutil.copytree(ROOT / "crates", scratch / "crates", ignore=shutil.ignore_patterns("out"), dirs_exist_ok=True)
+    shutil.copy(ROOT / "crates.txt", scratch)
+
+
 def main():
     words = argparse.ArgumentParser(description=__doc__, formatter_class=argparse.RawDescriptionHelpFormatter)
     words.add_argument("--scratch", type=Path)
@@ -237,12 +252,7 @@ def main():
     words.add_argument("crates", nargs="*")
     given = words.parse_args()
     scratch = given.scratch or Path(tempfile.mkdtemp(prefix="planted"))
-    scratch.mkdir(parents=True, exist_ok=True)
-    shutil.rmtree(scratch / "crates", ignore_errors=True)
-    shutil.copytree(ROOT / "crates", scratch / "crates")
-    shutil.copy(ROOT / "crates.txt", scratch)
-    if not (scratch / "target").exists() and (ROOT / "target").exists():
-        shutil.copytree(ROOT / "target", scratch / "target", ignore=shutil.ignore_patterns("*.tests", "bin", "obj", "must-fail"))
+    copied(scratch)
     crates = given.crates or sorted(path.stem for path in HERE.glob("*.bugs"))
     table = [try_crate(scratch, crate, given.only, given.alone) for crate in crates]
     print(f"\n{'crate':14} planted  refused  survived  bad  seconds a bug")
