@@ -183,6 +183,10 @@ def line_of(function, text):
 
 def names_only(function, text):
     """Whether every error in the function's proof is a name that the code no longer has, and no fact failed."""
+    # the facts that failed stand right above the function's line
+    above = re.split(r"^(?:fn|impl|struct|enum|trait) .*\n", re.split(rf"^fn (?:\S*::)?{function}: ", text, flags=re.M)[0], flags=re.M)[-1]
+    if "it is not proved that" in above:
+        return False
     folder = function.replace("::", "/")
     errors = [e for e in re.findall(r"^\S+: error: .*(?:\n  .*)*", text, re.M) if f"{folder}/" in e.split(": error")[0]]
     return bool(errors) and all(NAMES.search(error) for error in errors)
