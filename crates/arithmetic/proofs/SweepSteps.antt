@@ -1,10 +1,10 @@
 -- One turn of a loop over rows. Assumes nothing.
-use Rattle.std.proofs.Common.{◌≡◌, ℕ, suc, ◌+◌, ◌-◌, ◌<◌, ◌≤◌, List, [], ◌∷◌, length, get_or, drop, set, fold, sym, refl, ap, ◌∙◌, ap₂, add-one, arith}
+use Rattle.std.proofs.Common.{◌≡◌, ℕ, suc, ◌+◌, ◌-◌, ◌<◌, ◌≤◌, List, [], ◌∷◌, length, get_or, drop, set, fold, sym, refl, ap, ◌∙◌, ap₂, arith}
 use Rattle.std.specs.List.{zip, range_with_len}
 use Rattle.std.proofs.lemmas.List.{drop_more, drop_all, set_past}
 use Rattle.matrix.specs.Patterns.{row_part}
 use Rattle.arithmetic.specs.Meanings.{Meaning}
-use Rattle.arithmetic.specs.Sweeps.{Equations, row_entries, row_value_of, placed, updated, swept, plain}
+use Rattle.arithmetic.specs.Sweeps.{Equations, row_entries, row_value_of, placed, updated}
 
 module _ {C V : Type 0} (m : Meaning C V) (s : Equations C V) (x : List V) (i : ℕ) where
   pub updated_at : (js : List ℕ) (cs : List C) (b d value : V) → i < length s.rhs → b ≡ get_or s.rhs i d → js ≡ row_part s.pattern s.pattern.columns i → cs ≡ row_part s.pattern s.coefficients i → value ≡ row_value_of m i (zip js cs) b x → set x i value ≡ updated m s x i
@@ -22,9 +22,6 @@ module _ {C V : Type 0} (m : Meaning C V) (s : Equations C V) (x : List V) (i : 
       go : (bs : List V) → x ≡ placed i (λ b. row_value_of m i (row_entries s i) b x) x bs
       go [] = refl
       go (b ∷ bs) = sym (set_past x i _ l)
-
-pub plain_more : {C V : Type 0} (m : Meaning C V) (s : Equations C V) (x : List V) (c : ℕ) {y z : List V} → z ≡ swept m s y → y ≡ plain m s x c → z ≡ plain m s x (c + 1)
-plain_more m s x c e inv = e ∙ ap (swept m s) inv ∙ ap (plain m s x) (sym (add-one c))
 
 -- a count from i up to n
 pub count_more : {S : Type 0} (f : S → ℕ → S) (i n : ℕ) (s t : S) {all : S} → i < n → t ≡ f s i → fold f s (range_with_len i (n - i)) ≡ all → fold f t (range_with_len (i + 1) (n - (i + 1))) ≡ all

@@ -1,5 +1,5 @@
 // Which figures a run may be begun with.
-ghost use Rattle.std.specs.Prelude.{◌≡◌};
+ghost use Rattle.std.specs.Prelude.{◌≡◌, not, position};
 ghost use Rattle.std.specs.Result.{result_err};
 ghost use Rattle.matrix.specs.Lent.{pattern_of};
 ghost use Rattle.arithmetic.specs.Admitting.{bad_at, coefficients_fault, values_fault};
@@ -30,15 +30,19 @@ pub fn check_coefficients<K: Arithmetic>(
     ensures { result_err result ≡ coefficients_fault layer (K.means arithmetic.now) (pattern_of matrix.now) coefficients.now }
 {
     for (e, coefficient) in coefficients.iter().enumerate() {
-        if is_bad_coefficient(arithmetic, matrix, e, *coefficient) {
-            return Err(Fault {
-                check: Check::Coefficient,
-                place: e,
-                layer,
-            });
-        }
+        let bad = is_bad_coefficient(arithmetic, matrix, e, *coefficient);
+        Check::Coefficient.refuse_if(bad, e, layer)?;
     }
     Ok(())
+}
+
+// The first row whose value is not admissible.
+fn bad_row<K: Arithmetic>(arithmetic: &K, values: &[K::Value]) -> Option<usize>
+    ensures { result ≡ position (λ v. not ((K.means arithmetic.now).value_admissible v)) values.now }
+{
+    values
+        .iter()
+        .position(|value| !arithmetic.value_admissible(*value))
 }
 
 // `check` says which list the values are of.
@@ -50,14 +54,5 @@ pub fn check_values<K: Arithmetic>(
 ) -> Result<(), Fault>
     ensures { result_err result ≡ values_fault layer check (K.means arithmetic.now) values.now }
 {
-    for (row, value) in values.iter().enumerate() {
-        if !arithmetic.value_admissible(*value) {
-            return Err(Fault {
-                check,
-                place: row,
-                layer,
-            });
-        }
-    }
-    Ok(())
+    check.refuse_found(bad_row(arithmetic, values), layer)
 }

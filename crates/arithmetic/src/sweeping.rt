@@ -1,5 +1,5 @@
 // The update of one row, and the plain sweep.
-ghost use Rattle.std.specs.Prelude.{◌≡◌, ◌+◌};
+ghost use Rattle.std.specs.Prelude.{◌≡◌, ◌+◌, length};
 ghost use Rattle.std.specs.List.{zip};
 ghost use Rattle.std.specs.Result.{result_err};
 ghost use Rattle.checks.specs.Verdicts.{unless_refused};
@@ -11,7 +11,6 @@ use crate::Arithmetic;
 use crate::admitting::{check_coefficients, check_values};
 use crate::system::System;
 use checks::{Check, Fault, Layer};
-use matrix::pattern::Matrix;
 use matrix::sizes::Size;
 use matrix::tables::Table;
 
@@ -42,6 +41,7 @@ pub fn row_value<K: Arithmetic>(
 }
 
 // Updates one row in place; a row with no right-hand side or no value is left alone.
+// Kept: callers have the arithmetic and the system apart, so a struct of both would only be packed and unpacked.
 pub fn update<K: Arithmetic>(
     arithmetic: &K,
     system: &System<'_, K::Coefficient, K::Value>,
@@ -51,6 +51,7 @@ pub fn update<K: Arithmetic>(
     ensures { vector.new ≡ updated (K.means arithmetic.now) (equations_of system.now) vector.old row }
 {
     let at = row as usize;
+    // Kept: with `get` and `get_mut` a value would be made before the vector is known to have its place.
     if at < system.right_hand_side.len() && at < vector.len() {
         let columns = system.matrix.row(system.matrix.columns, row);
         let coefficients = system.matrix.row(system.coefficients, row);
@@ -79,16 +80,11 @@ pub fn sweep<K: Arithmetic>(
     }
 }
 
-fn check_shape(
-    matrix: &Matrix<'_>,
-    sweeps: u32,
-    coefficients: usize,
-    right_hand_side: usize,
-    vector: usize,
-) -> Result<(), Fault>
-    ensures { result_err result ≡ shape_fault (pattern_of matrix.now) sweeps coefficients right_hand_side vector }
+fn check_shape<C, V>(system: &System<'_, C, V>, sweeps: u32, vector: &[V]) -> Result<(), Fault>
+    ensures { result_err result ≡ shape_fault (pattern_of system.now.matrix) sweeps (length system.now.coefficients.now) (length system.now.right_hand_side.now) (length vector.now) }
 {
     let layer = Layer::Matrix;
+    let matrix = &system.matrix;
     let rows = matrix.rows as usize;
     let entries = matrix.entries as usize;
     Size::Rows(matrix.rows).check(layer)?;
@@ -96,9 +92,9 @@ fn check_shape(
     Size::Sweeps(sweeps).check(layer)?;
     Table::RowStarts.check_length(matrix.starts.len(), rows + 1, layer)?;
     Table::Columns.check_length(matrix.columns.len(), entries, layer)?;
-    Table::Coefficients.check_length(coefficients, entries, layer)?;
-    Table::RightHandSide.check_length(right_hand_side, rows, layer)?;
-    Table::Vector.check_length(vector, rows, layer)
+    Table::Coefficients.check_length(system.coefficients.len(), entries, layer)?;
+    Table::RightHandSide.check_length(system.right_hand_side.len(), rows, layer)?;
+    Table::Vector.check_length(vector.len(), rows, layer)
 }
 
 fn check_sweeping<K: Arithmetic>(
@@ -109,13 +105,7 @@ fn check_sweeping<K: Arithmetic>(
 ) -> Result<(), Fault>
     ensures { result_err result ≡ sweeping_fault (K.means arithmetic.now) (equations_of system.now) sweeps vector.now }
 {
-    check_shape(
-        &system.matrix,
-        sweeps,
-        system.coefficients.len(),
-        system.right_hand_side.len(),
-        vector.len(),
-    )?;
+    check_shape(system, sweeps, vector)?;
     system.matrix.check(Layer::Matrix)?;
     check_coefficients(arithmetic, &system.matrix, system.coefficients, Layer::Run)?;
     check_values(

@@ -1,20 +1,13 @@
 -- The number that bytes stand for, byte by byte. Assumes nothing.
-use Rattle.std.proofs.Common.{◌≡◌, ℕ, ◌+◌, ◌*◌, ◌<◌, ◌≤◌, List, map, length, Some, None, sym, refl, ap, ◌∙◌, arith}
+use Rattle.std.proofs.Common.{◌≡◌, ℕ, ◌+◌, ◌*◌, ◌<◌, ◌≤◌, List, map, length, sym, refl, ap, ◌∙◌, arith}
 use Rattle.std.specs.List.{between}
 use Rattle.std.proofs.lemmas.List.FromFn.{fill_by_all}
 use Rattle.std.proofs.lemmas.List.Edits.{length-between, get_or-between}
-use Rattle.std.proofs.lemmas.Bool.{cond-true, eq-eqb}
 use Rattle.checks.specs.Lists.{at, upto}
 use Rattle.case_file.specs.Numbers.{big, number_at}
-use Rattle.case_file.specs.Elements.{one_element}
 
-module _ (bytes : List ℕ) (n : ℕ) (long : length bytes ≡ n) where
-  pub big_of : big (map (at bytes) (upto n)) ≡ big bytes
-  big_of = ap big (sym (fill_by_all (at bytes) bytes n 0 long (λ k l. refl)))
-
-  -- bytes that are as many as an element takes are one
-  pub whole_element : {X : Type 0} (filed : List ℕ → X) (x : X) → x ≡ filed bytes → Some x ≡ one_element n filed bytes
-  whole_element filed x e = ap Some e ∙ sym (cond-true _ (Some (filed bytes)) None (eq-eqb _ _ long))
+big_of : (bytes : List ℕ) (n : ℕ) → length bytes ≡ n → big (map (at bytes) (upto n)) ≡ big bytes
+big_of bytes n long = ap big (sym (fill_by_all (at bytes) bytes n 0 long (λ k l. refl)))
 
 -- the number in four bytes of a file
 pub four_bytes : (file : List ℕ) (i : ℕ) → i + 4 ≤ length file → at file (i + 0) * 16777216 + at file (i + 1) * 65536 + at file (i + 2) * 256 + at file (i + 3) ≡ number_at file i

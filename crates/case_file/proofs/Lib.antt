@@ -1,3 +1,2 @@
 pub mod Bigs
 pub mod Whole
-pub mod Refusals

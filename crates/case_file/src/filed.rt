@@ -45,10 +45,7 @@ impl Filed for u8 {
     }
 
     fn read(bytes: &[u8]) -> Option<u8> {
-        match bytes {
-            [a] => Some(*a),
-            _ => None,
-        }
+        Some(u8::from_be_bytes(bytes.try_into().ok()?))
     }
 
     fn bits(self) -> u64 {
@@ -72,10 +69,7 @@ impl Filed for u32 {
     }
 
     fn read(bytes: &[u8]) -> Option<u32> {
-        match bytes {
-            [a, b, c, d] => Some(u32::from_be_bytes([*a, *b, *c, *d])),
-            _ => None,
-        }
+        Some(u32::from_be_bytes(bytes.try_into().ok()?))
     }
 
     fn bits(self) -> u64 {
@@ -100,13 +94,8 @@ impl Filed for f64 {
     }
 
     fn read(bytes: &[u8]) -> Option<f64> {
-        match bytes {
-            [a, b, c, d, e, f, g, h] => {
-                let bits = u64::from_be_bytes([*a, *b, *c, *d, *e, *f, *g, *h]);
-                Some(f64_from_bits_with_nan(bits))
-            }
-            _ => None,
-        }
+        let bits = u64::from_be_bytes(bytes.try_into().ok()?);
+        Some(f64_from_bits_with_nan(bits))
     }
 
     fn bits(self) -> u64 {

@@ -1,6 +1,10 @@
 // The kinds of arithmetic that a case may ask for.
-ghost use Rattle.std.specs.Prelude.{◌≡◌};
+ghost use Rattle.std.specs.Prelude.{◌≡◌, ◌++◌, Some, codes, decimal};
+ghost use Rattle.std.specs.Result.{result_ok, IfErr};
 ghost use Rattle.case_file.specs.Kinds.{kind_number, kind_numbered, width_of};
+
+use std::error::Error;
+use std::fmt;
 
 #[derive(Clone, Copy, PartialEq, Eq, Debug)]
 pub enum Kind {
@@ -15,16 +19,6 @@ impl Kind {
         self as u8
     }
 
-    pub fn numbered(number: u8) -> Option<Kind>
-        ensures { result ≡ kind_numbered number }
-    {
-        match number {
-            1 => Some(Kind::Doubles),
-            2 => Some(Kind::Minutes),
-            _ => None,
-        }
-    }
-
     // The bytes that one coefficient or value takes.
     pub fn width(self) -> usize
         ensures { result ≡ width_of self }
@@ -35,3 +29,32 @@ impl Kind {
         }
     }
 }
+
+// A number that no kind has.
+#[derive(Clone, Copy, PartialEq, Eq, Debug)]
+pub struct UnknownKind(pub u8);
+
+impl TryFrom<u8> for Kind {
+    type Error = UnknownKind;
+
+    ghost try_from_gives = { λ number kind. (result_ok kind ≡ kind_numbered number) × IfErr kind (λ unknown. unknown.0 ≡ number) };
+
+    fn try_from(number: u8) -> Result<Kind, UnknownKind> {
+        match number {
+            1 => Ok(Kind::Doubles),
+            2 => Ok(Kind::Minutes),
+            _ => Err(UnknownKind(number)),
+        }
+    }
+}
+
+impl fmt::Display for UnknownKind {
+    ghost output = { λ unknown. Some (codes "no kind has number " ++ decimal unknown.0) };
+
+    fn fmt<W: fmt::Write>(&self, f: &mut fmt::Formatter<W>) -> fmt::Result {
+        let number = self.0;
+        write!(f, "no kind has number {number}")
+    }
+}
+
+impl Error for UnknownKind {}

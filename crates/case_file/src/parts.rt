@@ -38,6 +38,7 @@ impl<'a> Part<'a> {
 
 impl Part<'_> {
     // Element i, or none where i is past the last whole element.
+    // Kept: this finds an element at once; `nth` of `chunks_exact` walks past all those before it.
     pub fn element<K: Filed>(&self, i: usize) -> Option<K>
         ensures { result ≡ element_at K.Filed.width K.Filed.filed self.now.bytes.now i }
     {
@@ -54,12 +55,9 @@ impl Part<'_> {
     pub fn elements<K: Filed + Drop>(&self, heap: Global) -> Result<Vec<K>, AllocError>
         ensures { IfOk result (λ v. v.items ≡ elements K.Filed.width K.Filed.filed self.now.bytes.now) }
     {
-        let mut list = Vec::new(heap);
-        for i in 0..self.bytes.len() / K::width() {
-            if let Some(element) = self.element(i) {
-                list.push(element)?;
-            }
-        }
-        Ok(list)
+        self.bytes
+            .chunks_exact(K::width())
+            .filter_map(|bytes| K::read(bytes))
+            .collect(heap)
     }
 }

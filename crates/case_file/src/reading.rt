@@ -1,19 +1,27 @@
 // A case, read from the bytes of a file.
 ghost use Rattle.std.specs.Prelude.{◌≡◌, ℕ, ◌+◌, ◌<◌, ◌≤◌, List, length, drop, IfOk, MatchOption, OnOk};
+ghost use Rattle.checks.specs.declared.Check.TheVariants.{FileFormat};
 ghost use Rattle.checks.specs.declared.Layer.TheVariants.{File};
 ghost use Rattle.checks.specs.Lists.{at};
-ghost use Rattle.checks.specs.Verdicts.{fault_at, fault_if};
+ghost use Rattle.checks.specs.Verdicts.{fault_at};
 ghost use Rattle.std.specs.Result.{result_err};
 ghost use Rattle.case_file.specs.Headers.{header_of, kind_of, table_lengths_of, offsets, format_fault, sizes_fault, header_fault, reading_fault};
 ghost use Rattle.case_file.specs.Cases.{Holds};
 
-use crate::kinds::Kind;
+use crate::kinds::{Kind, UnknownKind};
 use crate::parts::Part;
 use checks::{Check, Fault, Layer};
 use matrix::sizes::Size;
 
 // The bytes that the header takes, and the place of a fault of the tables' length.
 const HEADER: usize = 17;
+
+// The fault of a file without a whole header.
+const TOO_SHORT: Fault = Fault {
+    check: Check::FileLength,
+    place: 0,
+    layer: Layer::File,
+};
 
 // What the header says, as it stands there.
 #[derive(Clone, Copy)]
@@ -45,27 +53,21 @@ pub struct Case<'a> {
     pub seed: Part<'a>,
 }
 
-fn fault(check: Check, place: usize) -> Fault
-    ensures { result ≡ fault_at File check place }
-{
-    Fault {
-        check,
-        place,
-        layer: Layer::File,
-    }
-}
+impl From<UnknownKind> for Fault {
+    ghost from_gives = { λ _ fault. fault ≡ fault_at File FileFormat 5 };
 
-fn refuse_if(bad: bool, check: Check, place: usize) -> Result<(), Fault>
-    ensures { result_err result ≡ fault_if File check place bad }
-{
-    if bad {
-        return Err(fault(check, place));
+    fn from(_unknown: UnknownKind) -> Fault {
+        Fault {
+            check: Check::FileFormat,
+            place: 5,
+            layer: Layer::File,
+        }
     }
-    Ok(())
 }
 
 impl Header {
     // The header and the remaining tables, or none where there are too few bytes.
+    // Kept: one pattern has the bytes in the order in which the format names them.
     fn read(bytes: &[u8]) -> Option<(Header, &[u8])>
         ensures { MatchOption result (length bytes.now < 17) (λ x. (x.0 ≡ header_of bytes.now) × (x.1.now ≡ drop 17 bytes.now) × (17 ≤ length bytes.now)) }
     {
@@ -109,9 +111,9 @@ impl Header {
         ensures refused { result_err result ≡ format_fault self size }
         ensures kind { IfOk result (λ k. k ≡ kind_of self) }
     {
-        refuse_if(self.following as usize + 4 != size, Check::FileLength, 0)?;
-        refuse_if(self.version != 1, Check::FileFormat, 4)?;
-        Kind::numbered(self.kind).ok_or(fault(Check::FileFormat, 5))
+        Check::FileLength.refuse_if(self.following as usize + 4 != size, 0, Layer::File)?;
+        Check::FileFormat.refuse_if(self.version != 1, 4, Layer::File)?;
+        Ok(Kind::try_from(self.kind)?)
     }
 
     fn check_sizes(self) -> Result<(), Fault>
@@ -153,7 +155,7 @@ impl Header {
         let lengths = self.table_lengths(kind);
         let [starts, columns, coefficients, right_hand_side, vector, seed] = lengths;
         let end = HEADER + starts + columns + coefficients + right_hand_side + vector + seed;
-        refuse_if(end != size, Check::FileLength, HEADER)?;
+        Check::FileLength.refuse_if(end != size, HEADER, Layer::File)?;
         Ok(kind)
     }
 
@@ -196,9 +198,7 @@ impl Case<'_> {
         ensures refused { result_err result ≡ reading_fault bytes.now }
         ensures holds { IfOk result (Holds bytes.now (header_of bytes.now)) }
     {
-        let Some((header, tables)) = Header::read(bytes) else {
-            return Err(fault(Check::FileLength, 0));
-        };
+        let (header, tables) = Header::read(bytes).ok_or(TOO_SHORT)?;
         let kind = header.check(bytes.len())?;
         Ok(header.hand_out(kind, tables))
     }

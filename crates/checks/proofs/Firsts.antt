@@ -3,6 +3,7 @@ use Rattle.std.proofs.Common.{◌≡◌, ℕ, zero, suc, ◌+◌, ◌<◌, ◌�
 use Rattle.std.proofs.lemmas.Bool.{cases_eq, cond-true, cond-false, lt-ltb, le-ltb, ltb-true, ltb-false}
 use Rattle.checks.specs.declared.Check.{Check}
 use Rattle.checks.specs.declared.Layer.{Layer}
+use Rattle.checks.specs.declared.Fault.{Fault}
 use Rattle.checks.specs.Lists.{first_where, first_from}
 use Rattle.checks.specs.Verdicts.{fault_at, fault_if, lowest, LowestIsLowest}
 
@@ -50,6 +51,14 @@ module _ (layer : Layer) (check : Check) (bad : ℕ → Bool) (n : ℕ) where
   lowest_none none =
       let e : first_where bad n ≡ 0 + n = from_none bad 0 n (λ k a b. none k (omega arith)) in
       cond-false (ltb (first_where bad n) n) (Some (fault_at layer check (first_where bad n))) None (le-ltb (first_where bad n) n (omega arith))
+
+  -- a refusal at the first place that fails is the fault of the check
+  pub lowest_refused : (r : ℕ) (f : Fault) → r < n → ((k : ℕ) → k < r → bad k ≡ false) → fault_if layer check r (bad r) ≡ Some f → lowest layer check bad n ≡ Some f
+  lowest_refused r f l none e = here (bad r) refl e
+    where
+      here : (b : Bool) → bad r ≡ b → fault_if layer check r b ≡ Some f → lowest layer check bad n ≡ Some f
+      here true t q = lowest_found r l none t ∙ q
+      here false t q = let z : ◌≡◌ {A = ℕ} 0 1 = cc in absurd (omega arith)
 
   stands : (b : Bool) → ltb (first_where bad n) n ≡ b →
       MatchOption (fault_if layer check (first_where bad n) b) ((k : ℕ) → k < n → bad k ≡ false) (λ f. (f ≡ fault_at layer check f.place) × (f.place < n) × (bad f.place ≡ true) × ((k : ℕ) → k < f.place → bad k ≡ false))

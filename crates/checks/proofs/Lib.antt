@@ -1,3 +1,4 @@
 pub mod Firsts
+pub mod Places
 pub mod Refusals
 pub mod Uptos

@@ -1,16 +1,15 @@
 // What a refused call answers: which check failed, at which place, in which layer.
 #![tactic(auto)]
 
-ghost use Rattle.std.specs.Prelude.{◌≡◌, ◌==◌, Some};
+ghost use Rattle.std.specs.Prelude.{◌≡◌, decimal, Some};
 ghost use Rattle.checks.specs.Faults.{number_of, word_of, line_of};
-ghost use Rattle.checks.specs.Verdicts.{LowestIsLowest};
-ghost use Rattle.std.specs.Cmp.Rules.{comparing};
-ghost use Rattle.std.proofs.Common.{rules};
-ghost use Rattle.std.specs.Cmp as Keys;
+ghost use Rattle.std.specs.Option.{option_map};
+ghost use Rattle.std.specs.Result.{result_err};
+ghost use Rattle.checks.specs.Verdicts.{fault_at, fault_if, LowestIsLowest};
 
 use std::fmt;
 
-#[derive(Clone, Copy, Debug)]
+#[derive(Clone, Copy, Debug, PartialEq, Eq)]
 pub enum Check {
     Size = 1,
     Length = 2,
@@ -40,21 +39,30 @@ impl Check {
     {
         self as u8
     }
-}
 
-// Two checks are the same where their numbers are.
-impl PartialEq for Check {
-    ghost eq = { λ a b. number_of a == number_of b };
-
-    ghost laws = { Keys.partial_equiv_from_equiv (Prim.search (comparing, rules)) };
-
-    fn eq(&self, other: &Check) -> bool {
-        self.number() == other.number()
+    // Fails at a place where its test holds.
+    pub fn refuse_if(self, bad: bool, place: usize, layer: Layer) -> Result<(), Fault>
+        ensures { result_err result ≡ fault_if layer self place bad }
+    {
+        if bad {
+            return Err(Fault {
+                check: self,
+                place,
+                layer,
+            });
+        }
+        Ok(())
     }
-}
 
-impl Eq for Check {
-    ghost laws = { Prim.search (comparing, rules) };
+    // Fails at the place that was found, if one was.
+    pub fn refuse_found(self, found: Option<usize>, layer: Layer) -> Result<(), Fault>
+        ensures { result_err result ≡ option_map (fault_at layer self) found }
+    {
+        match found {
+            Some(place) => self.refuse_if(true, place, layer),
+            None => Ok(()),
+        }
+    }
 }
 
 #[derive(Clone, Copy, PartialEq, Eq, Debug)]
@@ -78,6 +86,23 @@ impl Layer {
     }
 }
 
+impl fmt::Display for Layer {
+    ghost output = { λ layer. Some (word_of layer) };
+
+    fn fmt<W: fmt::Write>(&self, f: &mut fmt::Formatter<W>) -> fmt::Result {
+        f.write_str(self.word())
+    }
+}
+
+impl fmt::Display for Check {
+    ghost output = { λ check. Some (decimal (number_of check)) };
+
+    fn fmt<W: fmt::Write>(&self, f: &mut fmt::Formatter<W>) -> fmt::Result {
+        let number = self.number();
+        write!(f, "{number}")
+    }
+}
+
 #[derive(Clone, Copy, PartialEq, Eq, Debug)]
 pub struct Fault {
     pub check: Check,
@@ -89,10 +114,12 @@ impl fmt::Display for Fault {
     ghost output = { λ fault. Some (line_of fault) };
 
     fn fmt<W: fmt::Write>(&self, f: &mut fmt::Formatter<W>) -> fmt::Result {
-        let number = self.check.number();
-        let place = self.place;
-        let layer = self.layer.word();
-        write!(f, "refused {number} place {place} in {layer}")
+        let Fault {
+            check,
+            place,
+            layer,
+        } = *self;
+        write!(f, "refused {check} place {place} in {layer}")
     }
 }
 

@@ -2,15 +2,11 @@
 #![tactic(auto)]
 
 use engine_report::reporting::report;
-use listing::refusals::MOST_BYTES;
+use listing::inputs::read_input;
 use std::io;
-use std::io::Read;
 
 fn main(rt: HostRuntime) -> io::Result<()> {
-    let mut file = Vec::new(rt.alloc());
-    rt.stdin()
-        .take(MOST_BYTES as u64 + 1)
-        .read_to_end(&mut file)?;
-    let text = report(rt.alloc(), file.as_slice())?;
+    let file = read_input(rt.alloc(), rt.stdin())?;
+    let text = report(rt.alloc(), &file)?;
     print!(rt; "{text}")
 }

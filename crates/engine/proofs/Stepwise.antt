@@ -17,17 +17,16 @@ use Rattle.preparing.specs.declared.prepared.Prepared.{Prepared}
 use Rattle.preparing.specs.Layouts.{tables_in}
 use Rattle.preparing.specs.Posed.{Posed, matrix_of, ranks_of, tiling_of, renumbered, start_of, preparing_fault}
 use Rattle.preparing.specs.Prepared.{Prepares}
-use Rattle.preparing.proofs.Stepwise.{tiling_held}
 use Rattle.engine.specs.declared.solution.Tile.{Tile}
 use Rattle.engine.specs.Solutions.{Solved, solving_fault, tiles_of, solved}
 
 module _ {C V : Type 0} (m : Meaning C V) (p : Posed C V) (passed : preparing_fault p ≡ None) (x : Prepared C V) (prepared : Prepares p x)
     (cs : List C) (bs start : List V) (cs_is : cs ≡ vec_items x.figures.coefficients) (bs_is : bs ≡ vec_items x.figures.right_hand_side) (start_is : start ≡ vec_items x.figures.vector) where
   abbrev handed : Tables
-  handed = tables_in (matrix_of p).rows (matrix_of p).entries p.sweeps p.tiles x.tables x.layout
+  handed = tables_in x.tables x.layout
 
   pub l_is : handed.tiling ≡ tiling_of p
-  l_is = tiling_held (tiling_of p) x.tables prepared.1
+  l_is = prepared.1
 
   cs_new : cs ≡ (renumbered p).coefficients
   cs_new = cs_is ∙ prepared.2.0
@@ -64,11 +63,11 @@ module _ {C V : Type 0} (m : Meaning C V) (p : Posed C V) (passed : preparing_fa
     pub rows_long : length start ≡ (matrix_of p).rows
     rows_long =
         let begun : beginning_fault m handed.tiling.pattern cs bs start ≡ None = (all_passed (opening_fault handed ∷ beginning_fault m handed.tiling.pattern cs bs start ∷ []) ran).1.0 in
-        (lengths_are handed.tiling.pattern (length cs) (length bs) (length start) (begun_lengths m handed.tiling.pattern cs bs start begun)).1
+        (lengths_are handed.tiling.pattern (length cs) (length bs) (length start) (begun_lengths m handed.tiling.pattern cs bs start begun)).1 ∙ ap (λ (t : Tiling). t.pattern.rows) l_is
 
-    pub solved_is : (rank : List ℕ) (tiles : List Tile) (v values : List V) → rank ≡ ranks_of p → tiles ≡ tiles_of handed.tiling → v ≡ plain m (equations_with handed.tiling cs bs) start p.sweeps → values ≡ carried_rows rank v
+    pub solved_is : (rank : List ℕ) (tiles : List Tile) (v values : List V) → rank ≡ ranks_of p → tiles ≡ tiles_of handed.tiling → v ≡ plain m (equations_with handed.tiling cs bs) start handed.tiling.sweeps → values ≡ carried_rows rank v
         → ◌≡◌ {A = Solved V} (record { ranks = rank; tiles = tiles; values = values }) (solved m p)
     solved_is rank tiles v values rank_is tiles-are plain_is values-are =
-        let new = plain_is ∙ ap₂ (λ e y. plain m e y p.sweeps) equations_new start_new in
+        let new = plain_is ∙ ap₂ (λ e y. plain m e y handed.tiling.sweeps) equations_new start_new ∙ ap (λ (t : Tiling). plain m (renumbered p) (start_of p) t.sweeps) l_is in
         ap₂ (λ (t : List Tile) (w : List V). record { ranks = rank; tiles = t; values = w }) (tiles-are ∙ ap tiles_of l_is) (values-are ∙ ap₂ carried_rows rank_is new)
         ∙ ap (λ (r : List ℕ). record { ranks = r; tiles = tiles_of (tiling_of p); values = carried_rows (ranks_of p) (plain m (renumbered p) (start_of p) p.sweeps) }) rank_is

@@ -19,6 +19,7 @@ use preparing::failing::Failure;
 use preparing::layouts::Layout;
 use preparing::numbered::Remapped;
 use preparing::prepared::open_tables;
+use runs::system::TiledSystem;
 use runs::whole::run_tiles;
 use std::alloc::{AllocError, Global};
 
@@ -26,6 +27,7 @@ use std::alloc::{AllocError, Global};
 fn all_tiles(heap: Global, tiles: u32) -> Result<Vec<u32>, AllocError>
     ensures { IfOk result (λ v. v.items ≡ upto tiles) }
 {
+    // Kept: of a range that is collected as it stands the proof knows nothing.
     let mut numbers = Vec::new(heap);
     for tile in 0..tiles {
         numbers.push(tile)?;
@@ -36,43 +38,35 @@ fn all_tiles(heap: Global, tiles: u32) -> Result<Vec<u32>, AllocError>
 fn describe_tiles(heap: Global, plan: &Plan<'_>) -> Result<Vec<Tile>, AllocError>
     ensures { IfOk result (λ v. v.items ≡ tiles_of (tiling_held plan.now)) }
 {
-    let mut list = Vec::new(heap);
-    for tile in 0..plan.tiles() {
-        list.push(Tile {
-            points: plan.tile_points(tile),
-            waits: plan.wait_word(tile),
-        })?;
-    }
-    Ok(list)
+    let tile = |number| Tile {
+        points: plan.tile_points(number),
+        waits: plan.wait_word(number),
+    };
+    (0..plan.tiles()).map(tile).collect(heap)
 }
 
 // Opens what was prepared, calls every tile, and answers what there is to say of each.
-pub(crate) fn run_prepared<'a, K: Arithmetic>(
+pub(crate) fn run_prepared<K: Arithmetic>(
     heap: Global,
     arithmetic: &K,
-    rows: u32,
-    entries: u32,
-    sweeps: u32,
-    tiles: u32,
-    tables: &'a Remapped,
-    layout: &'a Layout,
-    coefficients: &'a [K::Coefficient],
-    right_hand_side: &'a [K::Value],
+    tables: &Remapped,
+    layout: &Layout,
+    coefficients: &[K::Coefficient],
+    right_hand_side: &[K::Value],
     vector: &mut [K::Value],
 ) -> Result<Vec<Tile>, Failure>
-    ensures { Answers (first_fault (opening_fault (tables_in rows entries sweeps tiles tables.now layout.now) ∷ beginning_fault (K.means arithmetic.now) (tiling_in rows entries sweeps tiles tables.now).pattern coefficients.now right_hand_side.now vector.old ∷ [])) (λ list. (list.items ≡ tiles_of (tiling_in rows entries sweeps tiles tables.now)) × (vector.new ≡ plain (K.means arithmetic.now) (equations_with (tiling_in rows entries sweeps tiles tables.now) coefficients.now right_hand_side.now) vector.old sweeps)) result }
+    ensures { Answers (first_fault (opening_fault (tables_in tables.now layout.now) ∷ beginning_fault (K.means arithmetic.now) (tiling_in tables.now).pattern coefficients.now right_hand_side.now vector.old ∷ [])) (λ list. (list.items ≡ tiles_of (tiling_in tables.now)) × (vector.new ≡ plain (K.means arithmetic.now) (equations_with (tiling_in tables.now) coefficients.now right_hand_side.now) vector.old tables.now.sweeps)) result }
 {
     let mut plan = Plan::built_in();
-    open_tables(&mut plan, rows, entries, sweeps, tiles, tables, layout)?;
+    open_tables(&mut plan, tables, layout)?;
     plan.stands();
-    let calls = all_tiles(heap, tiles)?;
-    let _closing = run_tiles(
+    let calls = all_tiles(heap, tables.tiles)?;
+    let system = TiledSystem {
         arithmetic,
-        &plan,
+        plan: &plan,
         coefficients,
         right_hand_side,
-        vector,
-        calls.as_slice(),
-    )?;
+    };
+    let _closing = run_tiles(&system, vector, calls.as_slice())?;
     Ok(describe_tiles(heap, &plan)?)
 }

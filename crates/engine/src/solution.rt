@@ -8,6 +8,7 @@ pub struct Tile {
 }
 
 // The rank and the value of each original row, and the tiles.
+// Kept: ranks and values come as two tables, and a list of pairs would be one more copy of both.
 #[derive(Drop)]
 pub struct Solution<V> {
     pub ranks: Vec<u32>,

@@ -9,7 +9,7 @@ use crate::running::run_prepared;
 use crate::solution::Solution;
 use arithmetic::Arithmetic;
 use preparing::failing::Failure;
-use preparing::figures::{Figures, rows_back};
+use preparing::figures::Figures;
 use preparing::numbered::Ranking;
 use preparing::posing::Problem;
 use preparing::prepared::{Prepared, prepare};
@@ -23,7 +23,6 @@ pub fn solve<K: Arithmetic>(
 ) -> Result<Solution<K::Value>, Failure>
     ensures { Answers (solving_fault (K.means arithmetic.now) (posed_by problem.now)) (λ s. solved_by s ≡ solved (K.means arithmetic.now) (posed_by problem.now)) result }
 {
-    let matrix = problem.system.matrix;
     let Prepared {
         ranking,
         tables,
@@ -38,17 +37,13 @@ pub fn solve<K: Arithmetic>(
     let tiles = run_prepared(
         heap,
         arithmetic,
-        matrix.rows,
-        matrix.entries,
-        problem.sweeps,
-        problem.tiles,
         &tables,
         &layout,
         coefficients.as_slice(),
         right_hand_side.as_slice(),
         vector.as_mut_slice(),
     )?;
-    let values = rows_back(heap, matrix.rows, &ranking, vector.as_slice())?;
+    let values = ranking.rows_back(heap, problem.system.matrix.rows, vector.as_slice())?;
     let Ranking { ranks, rows: _ } = ranking;
     Ok(Solution {
         ranks,

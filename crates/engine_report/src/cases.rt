@@ -9,6 +9,7 @@ ghost use Rattle.engine_report.specs.Cases.{Reads, posed_with};
 use arithmetic::system::System;
 use case_file::filed::Filed;
 use case_file::reading::Case;
+use growing::Seeding;
 use matrix::pattern::Matrix;
 use preparing::posing::Problem;
 use std::alloc::{AllocError, Global};
@@ -56,9 +57,11 @@ pub fn pose<'a, F>(case: &Case<'_>, tables: &'a CaseTables<F>) -> Problem<'a, F,
             tables.right_hand_side.as_slice(),
         ),
         vector: tables.vector.as_slice(),
-        sweeps: case.sweeps,
-        seed_sweep: case.seed_sweep,
-        tiles: case.tiles,
-        seed: tables.seed.as_slice(),
+        seeding: Seeding {
+            sweeps: case.sweeps,
+            tiles: case.tiles,
+            seed_sweep: case.seed_sweep,
+            seed: tables.seed.as_slice(),
+        },
     }
 }

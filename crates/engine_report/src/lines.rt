@@ -41,6 +41,7 @@ fn push_rows<K: Filed + Copy>(
     ensures { OnOk result (string_bytes text.new ≡ string_bytes text.old ++ rows_text (2 * K.Filed.width) K.Filed.printed ranks.now values.now) }
 {
     let digits = 2 * K::width() as u8;
+    // Kept: a solution may have fewer ranks than values, and its lines then say rank 0.
     for (row, value) in values.iter().enumerate() {
         let number = value.bits();
         push_row(

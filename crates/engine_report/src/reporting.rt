@@ -2,7 +2,7 @@
 ghost use Rattle.std.specs.Prelude.{◌≡◌, IfOk, string_bytes};
 ghost use Rattle.case_file.specs.Contents.{contents_of};
 ghost use Rattle.preparing.specs.Held.{posed_by};
-ghost use Rattle.engine_report.specs.Reports.{problem_text_of, solved_text, kind_text_of, file_text_of, reported};
+ghost use Rattle.engine_report.specs.Reports.{problem_text_of, solved_text, kind_text_of, reported};
 
 use crate::cases::{pose, read_tables};
 use crate::lines::solution_listing;
@@ -13,6 +13,7 @@ use case_file::filed::Filed;
 use case_file::kinds::Kind;
 use case_file::reading::Case;
 use engine::solving::solve;
+use growing::Seeding;
 use listing::refusals::{check_input, refusal};
 use preparing::failing::Failure;
 use preparing::posing::Problem;
@@ -27,10 +28,11 @@ fn problem_text<F: Filed + Copy, K: Arithmetic<Coefficient = F, Value = F>>(
     ensures { IfOk result (λ text. string_bytes text ≡ problem_text_of (K.means arithmetic.now) F.Filed.width F.Filed.printed (posed_by problem.now)) }
 {
     let rows = problem.system.matrix.rows;
+    let Seeding { sweeps, tiles, .. } = problem.seeding;
     match solve(heap, arithmetic, problem) {
-        Ok(solution) => solution_listing(heap, rows, problem.sweeps, problem.tiles, &solution),
+        Ok(solution) => solution_listing(heap, rows, sweeps, tiles, &solution),
         Err(Failure::Refusal(fault)) => refusal(heap, fault),
-        Err(Failure::NoMemory) => Err(AllocError),
+        Err(Failure::NoMemory(error)) => Err(error),
     }
 }
 
@@ -50,18 +52,10 @@ fn solve_text<F: Filed + Copy, K: Arithmetic<Coefficient = F, Value = F>>(
 fn case_text(heap: Global, case: &Case<'_>) -> Result<String, AllocError>
     ensures { IfOk result (λ text. string_bytes text ≡ kind_text_of case.now.kind (contents_of case.now)) }
 {
+    // Kept: a closure cannot be generic over the arithmetic, so each kind's call is written out.
     match case.kind {
         Kind::Doubles => solve_text(heap, &Doubles, case),
         Kind::Minutes => solve_text(heap, &Minutes, case),
-    }
-}
-
-fn file_text(heap: Global, file: &[u8]) -> Result<String, AllocError>
-    ensures { IfOk result (λ text. string_bytes text ≡ file_text_of file.now) }
-{
-    match Case::read(file) {
-        Ok(case) => case_text(heap, &case),
-        Err(fault) => refusal(heap, fault),
     }
 }
 
@@ -69,8 +63,8 @@ fn file_text(heap: Global, file: &[u8]) -> Result<String, AllocError>
 pub fn report(heap: Global, file: &[u8]) -> Result<String, AllocError>
     ensures { IfOk result (λ text. string_bytes text ≡ reported file.now) }
 {
-    match check_input(file) {
-        Ok(()) => file_text(heap, file),
+    match check_input(file).and_then(|()| Case::read(file)) {
+        Ok(case) => case_text(heap, &case),
         Err(fault) => refusal(heap, fault),
     }
 }

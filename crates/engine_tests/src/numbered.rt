@@ -3,7 +3,7 @@ use crate::is_fault;
 use arithmetic::minutes::NEVER;
 use checks::{Fault, Layer};
 use matrix::pattern::Matrix;
-use numbering::carrying::{carry_entries, carry_entries_back, carry_rows, carry_rows_back};
+use numbering::Numbering;
 use numbering::ordering::order;
 use numbering::remapping::remap;
 use std::process::Abort;
@@ -15,6 +15,18 @@ const PATH: Matrix<'static> = Matrix {
     starts: &[0, 2, 5, 7],
     columns: &[0, 1, 1, 0, 2, 2, 1],
 };
+
+fn numbering<'a>(ranks: &'a [u32], rows_by_rank: &'a [u32]) -> Numbering<'a> {
+    Numbering {
+        ranks,
+        rows_by_rank,
+    }
+}
+
+// A matrix of which carrying sees the row starts.
+fn starts_of(rows: u32, entries: u32, starts: &[u32]) -> Matrix<'_> {
+    Matrix::new(rows, entries, starts, &[])
+}
 
 #[test]
 fn one_row(rt: HostRuntime) -> Result<(), Fail> {
@@ -57,8 +69,7 @@ fn the_reversed_path(rt: HostRuntime) -> Result<(), Fail> {
         &PATH,
         2,
         &[1, 0, 0, 1, 1, 0],
-        &[2, 1, 0],
-        &[2, 1, 0],
+        &numbering(&[2, 1, 0], &[2, 1, 0]),
         &mut starts,
         &mut columns,
         &mut tiles,
@@ -75,27 +86,19 @@ fn doubles_there_and_back(rt: HostRuntime) -> Result<(), Fail> {
     let values = [0.5, -0.25, 8.0];
     let mut there = [9.0; 3];
     let mut back = [9.0; 3];
-    carry_rows(3, &[2, 0, 1], &[1, 2, 0], &values, &mut there)?;
-    carry_rows_back(3, &[2, 0, 1], &[1, 2, 0], &there, &mut back)?;
+    numbering(&[2, 0, 1], &[1, 2, 0]).carry_rows(3, &values, &mut there)?;
+    numbering(&[2, 0, 1], &[1, 2, 0]).carry_rows_back(3, &there, &mut back)?;
     assert!(rt; there == [-0.25, 8.0, 0.5] && back == values);
     let coefficients = [0.5, 1.5, 2.5, 3.5, 4.5, 5.5, 6.5];
     let mut there = [9.0; 7];
     let mut back = [9.0; 7];
-    carry_entries(
-        3,
-        7,
-        &[0, 2, 5, 7],
-        &[2, 0, 1],
-        &[1, 2, 0],
+    numbering(&[2, 0, 1], &[1, 2, 0]).carry_entries(
+        &starts_of(3, 7, &[0, 2, 5, 7]),
         &coefficients,
         &mut there,
     )?;
-    carry_entries_back(
-        3,
-        7,
-        &[0, 2, 5, 7],
-        &[2, 0, 1],
-        &[1, 2, 0],
+    numbering(&[2, 0, 1], &[1, 2, 0]).carry_entries_back(
+        &starts_of(3, 7, &[0, 2, 5, 7]),
         &there,
         &mut back,
     )?;
@@ -109,28 +112,20 @@ fn minutes_there_and_back(rt: HostRuntime) -> Result<(), Fail> {
     let values = [10, NEVER, NEVER];
     let mut there = [9; 3];
     let mut back = [9; 3];
-    carry_rows(3, &[2, 1, 0], &[2, 1, 0], &values, &mut there)?;
-    carry_rows_back(3, &[2, 1, 0], &[2, 1, 0], &there, &mut back)?;
+    numbering(&[2, 1, 0], &[2, 1, 0]).carry_rows(3, &values, &mut there)?;
+    numbering(&[2, 1, 0], &[2, 1, 0]).carry_rows_back(3, &there, &mut back)?;
     assert_eq!(rt; there, [NEVER, NEVER, 10]);
     assert_eq!(rt; back, values);
     let coefficients: [u32; 7] = [0, 7, 0, 7, 5, 0, 5];
     let mut there = [9; 7];
     let mut back = [9; 7];
-    carry_entries(
-        3,
-        7,
-        &[0, 2, 5, 7],
-        &[2, 1, 0],
-        &[2, 1, 0],
+    numbering(&[2, 1, 0], &[2, 1, 0]).carry_entries(
+        &starts_of(3, 7, &[0, 2, 5, 7]),
         &coefficients,
         &mut there,
     )?;
-    carry_entries_back(
-        3,
-        7,
-        &[0, 2, 5, 7],
-        &[2, 1, 0],
-        &[2, 1, 0],
+    numbering(&[2, 1, 0], &[2, 1, 0]).carry_entries_back(
+        &starts_of(3, 7, &[0, 2, 5, 7]),
         &there,
         &mut back,
     )?;
@@ -145,21 +140,11 @@ fn refused(rt: &impl Abort, answer: Result<(), Fault>, number: u8, place: usize)
 
 // Whether a table is as it was handed in, all 9, or all 8 where it holds tiles.
 fn untouched(table: &[u32]) -> bool {
-    for number in table {
-        if *number != 9 {
-            return false;
-        }
-    }
-    true
+    table.iter().all(|number| *number == 9)
 }
 
 fn untouched_tiles(table: &[u8]) -> bool {
-    for tile in table {
-        if *tile != 8 {
-            return false;
-        }
-    }
-    true
+    table.iter().all(|tile| *tile == 8)
 }
 
 fn order_refused(
@@ -253,8 +238,7 @@ fn remap_refused(
     matrix: &Matrix,
     sweeps: u32,
     cells: &[u8],
-    ranks: &[u32],
-    rows_by_rank: &[u32],
+    numbering: &Numbering<'_>,
     number: u8,
     place: usize,
 ) {
@@ -265,8 +249,7 @@ fn remap_refused(
         matrix,
         sweeps,
         cells,
-        ranks,
-        rows_by_rank,
+        numbering,
         &mut starts,
         &mut columns,
         &mut tiles,
@@ -292,8 +275,7 @@ fn of_tables<'a>(
         &matrix,
         2,
         &[7; 6],
-        &[2, 0, 1],
-        &[1, 2, 0],
+        &numbering(&[2, 0, 1], &[1, 2, 0]),
         number,
         place,
     );
@@ -303,17 +285,49 @@ fn of_tables<'a>(
 fn remapping_refuses_sizes(rt: HostRuntime) {
     of_tables(&rt, 0, 7, &[0, 2, 5, 7], &[0, 1, 1, 0, 2, 2, 1], 1, 1);
     of_tables(&rt, 3, 0, &[0, 2, 5, 7], &[0, 1, 1, 0, 2, 2, 1], 1, 2);
-    remap_refused(&rt, &PATH, 0, &[7; 6], &[2, 0, 1], &[1, 2, 0], 1, 3);
-    remap_refused(&rt, &PATH, 17, &[7; 6], &[2, 0, 1], &[1, 2, 0], 1, 3);
+    remap_refused(
+        &rt,
+        &PATH,
+        0,
+        &[7; 6],
+        &numbering(&[2, 0, 1], &[1, 2, 0]),
+        1,
+        3,
+    );
+    remap_refused(
+        &rt,
+        &PATH,
+        17,
+        &[7; 6],
+        &numbering(&[2, 0, 1], &[1, 2, 0]),
+        1,
+        3,
+    );
 }
 
 #[test]
 fn remapping_refuses_lengths(rt: HostRuntime) {
     of_tables(&rt, 3, 7, &[0, 2, 7], &[0, 1, 1, 0, 2, 2], 2, 1);
     of_tables(&rt, 3, 7, &[0, 2, 5, 7], &[0, 1, 1, 0, 2, 2], 2, 2);
-    remap_refused(&rt, &PATH, 2, &[7; 7], &[2, 0], &[1, 2, 0], 2, 4);
-    remap_refused(&rt, &PATH, 2, &[7; 6], &[2, 0], &[1, 2], 2, 6);
-    remap_refused(&rt, &PATH, 2, &[7; 6], &[2, 0, 1], &[1, 2], 2, 7);
+    remap_refused(
+        &rt,
+        &PATH,
+        2,
+        &[7; 7],
+        &numbering(&[2, 0], &[1, 2, 0]),
+        2,
+        4,
+    );
+    remap_refused(&rt, &PATH, 2, &[7; 6], &numbering(&[2, 0], &[1, 2]), 2, 6);
+    remap_refused(
+        &rt,
+        &PATH,
+        2,
+        &[7; 6],
+        &numbering(&[2, 0, 1], &[1, 2]),
+        2,
+        7,
+    );
 }
 
 // The tables that are written have these lengths, the others are right.
@@ -328,8 +342,7 @@ fn new_tables_refused(
         &PATH,
         2,
         &[7; 6],
-        &[2, 0, 1],
-        &[1, 2, 0],
+        &numbering(&[2, 0, 1], &[1, 2, 0]),
         starts,
         columns,
         tiles,
@@ -357,35 +370,114 @@ fn remapping_refuses_matrices(rt: HostRuntime) {
 // Rank 3 is not below 3; at rank 1 stands row 2, not row 0.
 #[test]
 fn remapping_refuses_ranks(rt: HostRuntime) {
-    remap_refused(&rt, &PATH, 2, &[7; 6], &[2, 3, 1], &[1, 2, 0], 7, 1);
-    remap_refused(&rt, &PATH, 2, &[7; 6], &[1, 0, 1], &[1, 2, 0], 7, 0);
-    remap_refused(&rt, &PATH, 2, &[7; 6], &[2, 0, 1], &[1, 0, 0], 7, 2);
+    remap_refused(
+        &rt,
+        &PATH,
+        2,
+        &[7; 6],
+        &numbering(&[2, 3, 1], &[1, 2, 0]),
+        7,
+        1,
+    );
+    remap_refused(
+        &rt,
+        &PATH,
+        2,
+        &[7; 6],
+        &numbering(&[1, 0, 1], &[1, 2, 0]),
+        7,
+        0,
+    );
+    remap_refused(
+        &rt,
+        &PATH,
+        2,
+        &[7; 6],
+        &numbering(&[2, 0, 1], &[1, 0, 0]),
+        7,
+        2,
+    );
 }
 
 fn rows_refused(
     rt: &impl Abort,
     rows: u32,
-    ranks: &[u32],
-    rows_by_rank: &[u32],
+    numbering: &Numbering<'_>,
     vector: &[u32],
     new_vector: &mut [u32],
     number: u8,
     place: usize,
 ) {
-    let answer = carry_rows(rows, ranks, rows_by_rank, vector, new_vector);
+    let answer = numbering.carry_rows(rows, vector, new_vector);
     refused(rt, answer, number, place);
     assert!(rt; untouched(new_vector));
 }
 
 #[test]
 fn carrying_rows_refuses(rt: HostRuntime) {
-    rows_refused(&rt, 0, &[2, 0, 1], &[1, 2, 0], &[4; 3], &mut [9; 3], 1, 1);
-    rows_refused(&rt, 3, &[2, 0], &[1, 2], &[4; 3], &mut [9; 3], 2, 6);
-    rows_refused(&rt, 3, &[2, 0, 1], &[1, 2], &[4; 2], &mut [9; 3], 2, 7);
-    rows_refused(&rt, 3, &[2, 0, 1], &[1, 2, 0], &[4; 2], &mut [9; 2], 2, 14);
-    rows_refused(&rt, 3, &[2, 0, 1], &[1, 2, 0], &[4; 3], &mut [9; 4], 2, 34);
-    rows_refused(&rt, 3, &[2, 0, 3], &[1, 2, 0], &[4; 3], &mut [9; 3], 7, 2);
-    rows_refused(&rt, 3, &[2, 0, 1], &[1, 2, 1], &[4; 3], &mut [9; 3], 7, 0);
+    rows_refused(
+        &rt,
+        0,
+        &numbering(&[2, 0, 1], &[1, 2, 0]),
+        &[4; 3],
+        &mut [9; 3],
+        1,
+        1,
+    );
+    rows_refused(
+        &rt,
+        3,
+        &numbering(&[2, 0], &[1, 2]),
+        &[4; 3],
+        &mut [9; 3],
+        2,
+        6,
+    );
+    rows_refused(
+        &rt,
+        3,
+        &numbering(&[2, 0, 1], &[1, 2]),
+        &[4; 2],
+        &mut [9; 3],
+        2,
+        7,
+    );
+    rows_refused(
+        &rt,
+        3,
+        &numbering(&[2, 0, 1], &[1, 2, 0]),
+        &[4; 2],
+        &mut [9; 2],
+        2,
+        14,
+    );
+    rows_refused(
+        &rt,
+        3,
+        &numbering(&[2, 0, 1], &[1, 2, 0]),
+        &[4; 3],
+        &mut [9; 4],
+        2,
+        34,
+    );
+    rows_refused(
+        &rt,
+        3,
+        &numbering(&[2, 0, 3], &[1, 2, 0]),
+        &[4; 3],
+        &mut [9; 3],
+        7,
+        2,
+    );
+    rows_refused(
+        &rt,
+        3,
+        &numbering(&[2, 0, 1], &[1, 2, 1]),
+        &[4; 3],
+        &mut [9; 3],
+        7,
+        0,
+    );
 }
 
 fn rows_back_refused(
@@ -396,7 +488,7 @@ fn rows_back_refused(
     number: u8,
     place: usize,
 ) {
-    let answer = carry_rows_back(3, ranks, &[1, 2, 0], new_vector, vector);
+    let answer = numbering(ranks, &[1, 2, 0]).carry_rows_back(3, new_vector, vector);
     refused(rt, answer, number, place);
     assert!(rt; untouched(vector));
 }
@@ -412,36 +504,50 @@ fn carrying_rows_back_refuses(rt: HostRuntime) {
 fn entries_refused(
     rt: &impl Abort,
     starts: &[u32],
-    ranks: &[u32],
-    rows_by_rank: &[u32],
+    numbering: &Numbering<'_>,
     coefficients: &[u32],
     new_coefficients: &mut [u32],
     number: u8,
     place: usize,
 ) {
-    let answer = carry_entries(
-        2,
-        3,
-        starts,
-        ranks,
-        rows_by_rank,
-        coefficients,
-        new_coefficients,
-    );
+    let answer = numbering.carry_entries(&starts_of(2, 3, starts), coefficients, new_coefficients);
     refused(rt, answer, number, place);
     assert!(rt; untouched(new_coefficients));
 }
 
 #[test]
 fn carrying_entries_refuses(rt: HostRuntime) {
-    entries_refused(&rt, &[0, 3], &[1], &[1, 0], &[4; 3], &mut [9; 3], 2, 1);
-    entries_refused(&rt, &[0, 2, 3], &[1], &[1], &[4; 3], &mut [9; 3], 2, 6);
-    entries_refused(&rt, &[0, 2, 3], &[1, 0], &[1], &[4; 2], &mut [9; 3], 2, 7);
+    entries_refused(
+        &rt,
+        &[0, 3],
+        &numbering(&[1], &[1, 0]),
+        &[4; 3],
+        &mut [9; 3],
+        2,
+        1,
+    );
     entries_refused(
         &rt,
         &[0, 2, 3],
-        &[1, 0],
-        &[1, 0],
+        &numbering(&[1], &[1]),
+        &[4; 3],
+        &mut [9; 3],
+        2,
+        6,
+    );
+    entries_refused(
+        &rt,
+        &[0, 2, 3],
+        &numbering(&[1, 0], &[1]),
+        &[4; 2],
+        &mut [9; 3],
+        2,
+        7,
+    );
+    entries_refused(
+        &rt,
+        &[0, 2, 3],
+        &numbering(&[1, 0], &[1, 0]),
         &[4; 2],
         &mut [9; 2],
         2,
@@ -450,8 +556,7 @@ fn carrying_entries_refuses(rt: HostRuntime) {
     entries_refused(
         &rt,
         &[0, 2, 3],
-        &[1, 0],
-        &[1, 0],
+        &numbering(&[1, 0], &[1, 0]),
         &[4; 3],
         &mut [9; 4],
         2,
@@ -460,8 +565,7 @@ fn carrying_entries_refuses(rt: HostRuntime) {
     entries_refused(
         &rt,
         &[0, 4, 3],
-        &[1, 2],
-        &[1, 0],
+        &numbering(&[1, 2], &[1, 0]),
         &[4; 3],
         &mut [9; 3],
         3,
@@ -470,8 +574,7 @@ fn carrying_entries_refuses(rt: HostRuntime) {
     entries_refused(
         &rt,
         &[0, 2, 3],
-        &[1, 2],
-        &[1, 0],
+        &numbering(&[1, 2], &[1, 0]),
         &[4; 3],
         &mut [9; 3],
         7,
@@ -480,8 +583,7 @@ fn carrying_entries_refuses(rt: HostRuntime) {
     entries_refused(
         &rt,
         &[0, 2, 3],
-        &[0, 1],
-        &[1, 0],
+        &numbering(&[0, 1], &[1, 0]),
         &[4; 3],
         &mut [9; 3],
         7,
@@ -499,12 +601,8 @@ fn entries_back_refused(
     number: u8,
     place: usize,
 ) {
-    let answer = carry_entries_back(
-        rows,
-        entries,
-        &[0, 2, 3],
-        ranks,
-        &[1, 0],
+    let answer = numbering(ranks, &[1, 0]).carry_entries_back(
+        &starts_of(rows, entries, &[0, 2, 3]),
         new_coefficients,
         coefficients,
     );

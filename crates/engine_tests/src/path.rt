@@ -1,8 +1,8 @@
 // The path of three rows in the new numbering, its two tiles laid out.
 use checks::Fault;
 use matrix::pattern::Matrix;
+use plans::lent::{Layout, Tiling};
 use plans::plan::Plan;
-use plans::plan::opening::open;
 
 pub static STARTS: [u32; 4] = [0, 2, 5, 7];
 
@@ -20,15 +20,31 @@ pub fn path<'a>() -> Matrix<'a> {
     Matrix::new(3, 7, &STARTS, &COLUMNS)
 }
 
+pub fn tiling<'a>(matrix: Matrix<'a>, sweeps: u32, tiles: u32, cells: &'a [u8]) -> Tiling<'a> {
+    Tiling {
+        matrix,
+        sweeps,
+        tiles,
+        cells,
+    }
+}
+
+pub fn layout<'a>(schedule: &'a [u32], starts: &'a [u32], words: &'a [u64]) -> Layout<'a> {
+    Layout {
+        schedule,
+        starts,
+        words,
+    }
+}
+
+pub fn path_tiling<'a>() -> Tiling<'a> {
+    tiling(path(), 2, 2, &TILES)
+}
+
+pub fn path_layout<'a>() -> Layout<'a> {
+    layout(&SCHEDULE, &SCHEDULE_STARTS, &WAIT_WORDS)
+}
+
 pub fn open_path<'a>(plan: &mut Plan<'a>) -> Result<(), Fault> {
-    open(
-        plan,
-        path(),
-        2,
-        2,
-        &TILES,
-        &SCHEDULE,
-        &SCHEDULE_STARTS,
-        &WAIT_WORDS,
-    )
+    plan.open(path_tiling(), path_layout())
 }

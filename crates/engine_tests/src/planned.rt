@@ -1,11 +1,14 @@
 // Plans laid out, opened and refused.
 use crate::is_fault;
-use crate::path::{COLUMNS, SCHEDULE, SCHEDULE_STARTS, STARTS, TILES, WAIT_WORDS, open_path, path};
+use crate::path::{
+    COLUMNS, SCHEDULE, SCHEDULE_STARTS, STARTS, TILES, WAIT_WORDS, layout, open_path, path,
+    path_layout, path_tiling, tiling,
+};
 use checks::Layer;
 use matrix::pattern::Matrix;
 use plans::layout::lay_out;
+use plans::lent::{Layout, Tiling};
 use plans::plan::Plan;
-use plans::plan::opening::open;
 use std::process::Abort;
 use std::test::Fail;
 
@@ -41,21 +44,14 @@ fn the_built_in_plan(rt: HostRuntime) {
 // Opening is refused while the path's plan is held, which stays.
 fn refused<'a>(
     rt: &impl Abort,
-    matrix: Matrix<'a>,
-    sweeps: u32,
-    tiles: u32,
-    cells: &'a [u8],
-    schedule: &'a [u32],
-    starts: &'a [u32],
-    words: &'a [u64],
+    tiling: Tiling<'a>,
+    layout: Layout<'a>,
     number: u8,
     place: usize,
 ) -> Result<(), Fail> {
     let mut plan = Plan::built_in();
     open_path(&mut plan)?;
-    let answer = open(
-        &mut plan, matrix, sweeps, tiles, cells, schedule, starts, words,
-    );
+    let answer = plan.open(tiling, layout);
     assert!(rt; is_fault(answer.err(), Layer::Plan, number, place));
     is_the_path(rt, &plan);
     Ok(())
@@ -70,10 +66,7 @@ fn an_unlawful_path(rt: HostRuntime) -> Result<(), Fail> {
     let mut starts = [9; 5];
     let mut words = [9; 2];
     lay_out(
-        &path(),
-        2,
-        2,
-        &UNLAWFUL,
+        &tiling(path(), 2, 2, &UNLAWFUL),
         &mut schedule,
         &mut starts,
         &mut words,
@@ -83,13 +76,8 @@ fn an_unlawful_path(rt: HostRuntime) -> Result<(), Fail> {
     assert_eq!(rt; words, [2, 1]);
     refused(
         &rt,
-        path(),
-        2,
-        2,
-        &UNLAWFUL,
-        &schedule,
-        &starts,
-        &words,
+        tiling(path(), 2, 2, &UNLAWFUL),
+        layout(&schedule, &starts, &words),
         9,
         1,
     )
@@ -105,13 +93,8 @@ fn of_path<'a>(
 ) -> Result<(), Fail> {
     refused(
         rt,
-        path(),
-        2,
-        2,
-        &TILES,
-        schedule,
-        starts,
-        words,
+        path_tiling(),
+        layout(schedule, starts, words),
         number,
         place,
     )
@@ -171,10 +154,7 @@ fn every_lower_tile(rt: HostRuntime) -> Result<(), Fail> {
     let mut starts = [9; 9];
     let mut words = [9; 4];
     lay_out(
-        &four(),
-        2,
-        4,
-        &FOUR_TILES,
+        &tiling(four(), 2, 4, &FOUR_TILES),
         &mut schedule,
         &mut starts,
         &mut words,
@@ -185,13 +165,8 @@ fn every_lower_tile(rt: HostRuntime) -> Result<(), Fail> {
     let lower = [0, 1, 3, 7];
     refused(
         &rt,
-        four(),
-        2,
-        4,
-        &FOUR_TILES,
-        &schedule,
-        &starts,
-        &lower,
+        tiling(four(), 2, 4, &FOUR_TILES),
+        layout(&schedule, &starts, &lower),
         12,
         1,
     )
@@ -212,10 +187,7 @@ fn one_way<'a>(rt: &impl Abort, matrix: Matrix<'a>) -> Result<(), Fail> {
     let mut starts = [9; 5];
     let mut words = [9; 2];
     lay_out(
-        &matrix,
-        2,
-        2,
-        &[0, 1, 1, 1],
+        &tiling(matrix, 2, 2, &[0, 1, 1, 1]),
         &mut schedule,
         &mut starts,
         &mut words,
@@ -224,10 +196,7 @@ fn one_way<'a>(rt: &impl Abort, matrix: Matrix<'a>) -> Result<(), Fail> {
     assert_eq!(rt; starts, [0, 1, 1, 2, 4]);
     assert_eq!(rt; words, [0, 1]);
     lay_out(
-        &matrix,
-        2,
-        2,
-        &[0, 1, 0, 1],
+        &tiling(matrix, 2, 2, &[0, 1, 0, 1]),
         &mut schedule,
         &mut starts,
         &mut words,
@@ -240,26 +209,15 @@ fn one_way<'a>(rt: &impl Abort, matrix: Matrix<'a>) -> Result<(), Fail> {
 
 fn one_way_opens<'a>(rt: &impl Abort, matrix: Matrix<'a>) -> Result<(), Fail> {
     let mut plan = Plan::built_in();
-    open(
-        &mut plan,
-        matrix,
-        2,
-        2,
-        &[0, 1, 1, 1],
-        &[0, 1, 0, 1],
-        &[0, 1, 1, 2, 4],
-        &[0, 1],
+    plan.open(
+        tiling(matrix, 2, 2, &[0, 1, 1, 1]),
+        layout(&[0, 1, 0, 1], &[0, 1, 1, 2, 4], &[0, 1]),
     )?;
     assert!(rt; plan.rows() == 2 && plan.part(1, 1) == [0, 1].as_slice());
     refused(
         rt,
-        matrix,
-        2,
-        2,
-        &[0, 1, 0, 1],
-        &[0, 0, 1, 1],
-        &[0, 1, 2, 3, 4],
-        &[2, 1],
+        tiling(matrix, 2, 2, &[0, 1, 0, 1]),
+        layout(&[0, 0, 1, 1], &[0, 1, 2, 3, 4], &[2, 1]),
         9,
         2,
     )
@@ -286,19 +244,9 @@ fn of_matrix<'a>(
     place: usize,
 ) -> Result<(), Fail> {
     let matrix = Matrix::new(rows, entries, starts, columns);
-    layout_refused(rt, &matrix, 2, 2, &TILES, number, place);
-    refused(
-        rt,
-        matrix,
-        2,
-        2,
-        &TILES,
-        &SCHEDULE,
-        &SCHEDULE_STARTS,
-        &WAIT_WORDS,
-        number,
-        place,
-    )
+    let tiling = tiling(matrix, 2, 2, &TILES);
+    layout_refused(rt, &tiling, number, place);
+    refused(rt, tiling, path_layout(), number, place)
 }
 
 fn of_tiles<'a>(
@@ -309,42 +257,16 @@ fn of_tiles<'a>(
     number: u8,
     place: usize,
 ) -> Result<(), Fail> {
-    layout_refused(rt, &path(), sweeps, tiles, cells, number, place);
-    refused(
-        rt,
-        path(),
-        sweeps,
-        tiles,
-        cells,
-        &SCHEDULE,
-        &SCHEDULE_STARTS,
-        &WAIT_WORDS,
-        number,
-        place,
-    )
+    let tiling = tiling(path(), sweeps, tiles, cells);
+    layout_refused(rt, &tiling, number, place);
+    refused(rt, tiling, path_layout(), number, place)
 }
 
-fn layout_refused<'a>(
-    rt: &impl Abort,
-    matrix: &Matrix<'a>,
-    sweeps: u32,
-    tiles: u32,
-    cells: &'a [u8],
-    number: u8,
-    place: usize,
-) {
+fn layout_refused(rt: &impl Abort, tiling: &Tiling<'_>, number: u8, place: usize) {
     let mut schedule = [9; 6];
     let mut starts = [9; 5];
     let mut words = [9; 2];
-    let answer = lay_out(
-        matrix,
-        sweeps,
-        tiles,
-        cells,
-        &mut schedule,
-        &mut starts,
-        &mut words,
-    );
+    let answer = lay_out(tiling, &mut schedule, &mut starts, &mut words);
     assert!(rt; is_fault(answer.err(), Layer::Plan, number, place));
     assert_eq!(rt; schedule, [9; 6]);
     assert_eq!(rt; starts, [9; 5]);
@@ -380,7 +302,7 @@ fn new_tables_refused(
     words: &mut [u64],
     place: usize,
 ) {
-    let answer = lay_out(&path(), 2, 2, &TILES, schedule, starts, words);
+    let answer = lay_out(&path_tiling(), schedule, starts, words);
     assert!(rt; is_fault(answer.err(), Layer::Plan, 2, place));
 }
 

@@ -1,15 +1,16 @@
 // Runs begun, called tile by tile and closed, over the path of three rows and over 64 tiles.
 use crate::is_fault;
-use crate::path::{SCHEDULE, SCHEDULE_STARTS, TILES, WAIT_WORDS, open_path, path};
+use crate::path::{SCHEDULE, TILES, WAIT_WORDS, layout, open_path, path, path_layout, tiling};
 use arithmetic::doubles::Doubles;
 use arithmetic::minutes::{Minutes, NEVER};
 use checks::{Fault, Layer};
 use matrix::pattern::Matrix;
 use plans::layout::lay_out;
+use plans::lent::Tiling;
 use plans::plan::Plan;
-use plans::plan::opening::open;
 use runs::run::Run;
 use runs::run::closing::{Closing, End};
+use runs::system::TiledSystem;
 use runs::whole::run_tiles;
 use std::process::Abort;
 use std::test::Fail;
@@ -18,20 +19,26 @@ static COEFFICIENTS: [f64; 7] = [2.0, -1.0, 2.0, -1.0, -1.0, 2.0, -1.0];
 
 static RIGHT_HAND_SIDE: [f64; 3] = [8.0, 0.0, 4.0];
 
-fn call(
-    run: &mut Run,
-    plan: &Plan<'static>,
-    vector: &mut [f64],
-    number: u32,
-) -> Result<u32, Fault> {
-    run.tile(
-        &Doubles,
+fn figures<'p>(
+    plan: &'p Plan<'p>,
+    coefficients: &'p [f64],
+    right_hand_side: &'p [f64],
+) -> TiledSystem<'p, Doubles> {
+    TiledSystem {
+        arithmetic: &Doubles,
         plan,
-        &COEFFICIENTS,
-        &RIGHT_HAND_SIDE,
-        vector,
-        number,
-    )
+        coefficients,
+        right_hand_side,
+    }
+}
+
+// The path's doubles over a plan.
+fn doubles<'p>(plan: &'p Plan<'p>) -> TiledSystem<'p, Doubles> {
+    figures(plan, &COEFFICIENTS, &RIGHT_HAND_SIDE)
+}
+
+fn call(run: &mut Run, plan: &Plan<'_>, vector: &mut [f64], number: u32) -> Result<u32, Fault> {
+    run.tile(&doubles(plan), vector, number)
 }
 
 fn refused(answer: Result<u32, Fault>, number: u8, place: usize) -> bool {
@@ -39,10 +46,7 @@ fn refused(answer: Result<u32, Fault>, number: u8, place: usize) -> bool {
 }
 
 fn updated(answer: Result<u32, Fault>, points: u32) -> bool {
-    match answer {
-        Ok(count) => count == points,
-        Err(_) => false,
-    }
+    answer == Ok(points)
 }
 
 fn closed(closing: Closing, done: u64, points: u32, end: End) -> bool {
@@ -54,7 +58,7 @@ fn tile_by_tile(rt: HostRuntime) -> Result<(), Fail> {
     let mut plan = Plan::built_in();
     open_path(&mut plan)?;
     let mut vector = [0.0; 3];
-    let mut run = Run::begin(&Doubles, &plan, &COEFFICIENTS, &RIGHT_HAND_SIDE, &vector)?;
+    let mut run = Run::begin(&doubles(&plan), &vector)?;
     let early = call(&mut run, &plan, &mut vector, 1);
     let missing = call(&mut run, &plan, &mut vector, 2);
     let before = vector;
@@ -78,9 +82,9 @@ fn cut_short(rt: HostRuntime) -> Result<(), Fail> {
     let mut plan = Plan::built_in();
     open_path(&mut plan)?;
     let mut vector = [0.0; 3];
-    let run = Run::begin(&Doubles, &plan, &COEFFICIENTS, &RIGHT_HAND_SIDE, &vector)?;
+    let run = Run::begin(&doubles(&plan), &vector)?;
     assert!(rt; closed(run.close(), 0, 0, End::CutShort));
-    let mut run = Run::begin(&Doubles, &plan, &COEFFICIENTS, &RIGHT_HAND_SIDE, &vector)?;
+    let mut run = Run::begin(&doubles(&plan), &vector)?;
     let first = call(&mut run, &plan, &mut vector, 0);
     let closing = run.close();
     assert!(rt; updated(first, 3));
@@ -94,24 +98,10 @@ fn any_list_of_calls(rt: HostRuntime) -> Result<(), Fail> {
     let mut plan = Plan::built_in();
     open_path(&mut plan)?;
     let mut vector = [0.0; 3];
-    let closing = run_tiles(
-        &Doubles,
-        &plan,
-        &COEFFICIENTS,
-        &RIGHT_HAND_SIDE,
-        &mut vector,
-        &[1, 0, 7, 0, 1],
-    )?;
+    let closing = run_tiles(&doubles(&plan), &mut vector, &[1, 0, 7, 0, 1])?;
     assert!(rt; vector == [5.0, 4.0, 4.0]);
     assert!(rt; closed(closing, 3, 6, End::Whole));
-    let closing = run_tiles(
-        &Doubles,
-        &plan,
-        &COEFFICIENTS,
-        &RIGHT_HAND_SIDE,
-        &mut vector,
-        &[1, 7],
-    )?;
+    let closing = run_tiles(&doubles(&plan), &mut vector, &[1, 7])?;
     assert!(rt; vector == [5.0, 4.0, 4.0]);
     assert!(rt; closed(closing, 0, 0, End::CutShort));
     Ok(())
@@ -127,10 +117,16 @@ fn minutes(rt: HostRuntime) -> Result<(), Fail> {
     let mut plan = Plan::built_in();
     open_path(&mut plan)?;
     let mut vector = [NEVER; 3];
-    let mut run = Run::begin(&Minutes, &plan, &MINUTES, &ARRIVALS, &vector)?;
-    let first = run.tile(&Minutes, &plan, &MINUTES, &ARRIVALS, &mut vector, 0);
+    let system = TiledSystem {
+        arithmetic: &Minutes,
+        plan: &plan,
+        coefficients: &MINUTES,
+        right_hand_side: &ARRIVALS,
+    };
+    let mut run = Run::begin(&system, &vector)?;
+    let first = run.tile(&system, &mut vector, 0);
     let between = vector;
-    let second = run.tile(&Minutes, &plan, &MINUTES, &ARRIVALS, &mut vector, 1);
+    let second = run.tile(&system, &mut vector, 1);
     let closing = run.close();
     assert!(rt; updated(first, 3) && updated(second, 3));
     assert_eq!(rt; between, [NEVER, NEVER, NEVER]);
@@ -149,16 +145,10 @@ fn begin_refused<'a>(
 ) -> Result<(), Fail> {
     let mut plan = Plan::built_in();
     open_path(&mut plan)?;
-    let answer = run_tiles(
-        &Doubles,
-        &plan,
-        coefficients,
-        right_hand_side,
-        vector,
-        &[0, 1],
-    );
+    let system = figures(&plan, coefficients, right_hand_side);
+    let answer = run_tiles(&system, vector, &[0, 1]);
     assert!(rt; is_fault(answer.err(), Layer::Run, number, place));
-    match Run::begin(&Doubles, &plan, coefficients, right_hand_side, vector) {
+    match Run::begin(&system, vector) {
         Ok(run) => {
             let _ = run.close();
             Err(Fail::new("not refused"))
@@ -236,14 +226,13 @@ fn refused_minutes(rt: HostRuntime) -> Result<(), Fail> {
     let mut plan = Plan::built_in();
     open_path(&mut plan)?;
     let mut vector = [NEVER; 3];
-    let answer = run_tiles(
-        &Minutes,
-        &plan,
-        &[0, 5, 1, 7, 5, 0, 7],
-        &ARRIVALS,
-        &mut vector,
-        &[0, 1],
-    );
+    let system = TiledSystem {
+        arithmetic: &Minutes,
+        plan: &plan,
+        coefficients: &[0, 5, 1, 7, 5, 0, 7],
+        right_hand_side: &ARRIVALS,
+    };
+    let answer = run_tiles(&system, &mut vector, &[0, 1]);
     assert!(rt; is_fault(answer.err(), Layer::Run, 13, 2));
     assert_eq!(rt; vector, [NEVER; 3]);
     Ok(())
@@ -257,11 +246,11 @@ fn refused_calls(rt: HostRuntime) -> Result<(), Fail> {
     let other = Plan::built_in();
     let mut vector = [0.0; 3];
     let mut short = [0.0; 2];
-    let mut run = Run::begin(&Doubles, &plan, &COEFFICIENTS, &RIGHT_HAND_SIDE, &vector)?;
+    let mut run = Run::begin(&doubles(&plan), &vector)?;
     let sizes = call(&mut run, &other, &mut short, 7);
     let lengths = call(&mut run, &plan, &mut short, 7);
-    let wrong = run.tile(&Doubles, &plan, &[2.0], &[8.0], &mut short, 7);
-    let side = run.tile(&Doubles, &plan, &COEFFICIENTS, &[8.0], &mut short, 7);
+    let wrong = run.tile(&figures(&plan, &[2.0], &[8.0]), &mut short, 7);
+    let side = run.tile(&figures(&plan, &COEFFICIENTS, &[8.0]), &mut short, 7);
     let first = call(&mut run, &plan, &mut vector, 0);
     let closing = run.close();
     assert!(rt; refused(sizes, 1, 1) && refused(lengths, 2, 34));
@@ -279,16 +268,7 @@ static LONGER_COLUMNS: [u32; 8] = [0, 1, 1, 1, 2, 0, 2, 1];
 // Plans that differ from the path's in one size: an entry more, a sweep less, a tile more.
 fn open_longer<'a>(plan: &mut Plan<'a>) -> Result<(), Fault> {
     let matrix = Matrix::new(3, 8, &LONGER_STARTS, &LONGER_COLUMNS);
-    open(
-        plan,
-        matrix,
-        2,
-        2,
-        &TILES,
-        &SCHEDULE,
-        &SCHEDULE_STARTS,
-        &WAIT_WORDS,
-    )
+    plan.open(tiling(matrix, 2, 2, &TILES), path_layout())
 }
 
 static ONE_SWEEP: [u8; 3] = [0, 0, 1];
@@ -298,15 +278,9 @@ static ONE_SCHEDULE: [u32; 3] = [0, 1, 2];
 static ONE_STARTS: [u32; 3] = [0, 2, 3];
 
 fn open_shorter<'a>(plan: &mut Plan<'a>) -> Result<(), Fault> {
-    open(
-        plan,
-        path(),
-        1,
-        2,
-        &ONE_SWEEP,
-        &ONE_SCHEDULE,
-        &ONE_STARTS,
-        &WAIT_WORDS,
+    plan.open(
+        tiling(path(), 1, 2, &ONE_SWEEP),
+        layout(&ONE_SCHEDULE, &ONE_STARTS, &WAIT_WORDS),
     )
 }
 
@@ -315,15 +289,9 @@ static THREE_STARTS: [u32; 7] = [0, 2, 3, 4, 6, 6, 6];
 static THREE_WORDS: [u64; 3] = [0, 1, 0];
 
 fn open_wider<'a>(plan: &mut Plan<'a>) -> Result<(), Fault> {
-    open(
-        plan,
-        path(),
-        2,
-        3,
-        &TILES,
-        &SCHEDULE,
-        &THREE_STARTS,
-        &THREE_WORDS,
+    plan.open(
+        tiling(path(), 2, 3, &TILES),
+        layout(&SCHEDULE, &THREE_STARTS, &THREE_WORDS),
     )
 }
 
@@ -331,7 +299,7 @@ fn size_refused(rt: &impl Abort, other: &Plan<'static>, place: usize) -> Result<
     let mut plan = Plan::built_in();
     open_path(&mut plan)?;
     let mut vector = [0.0; 3];
-    let mut run = Run::begin(&Doubles, &plan, &COEFFICIENTS, &RIGHT_HAND_SIDE, &vector)?;
+    let mut run = Run::begin(&doubles(&plan), &vector)?;
     let answer = call(&mut run, other, &mut vector, 0);
     let closing = run.close();
     assert!(rt; refused(answer, 1, place));
@@ -361,15 +329,9 @@ static ALL_STARTS: [u32; 5] = [0, 3, 6, 6, 6];
 static NO_WAITS: [u64; 2] = [0, 0];
 
 fn open_all_first<'a>(plan: &mut Plan<'a>) -> Result<(), Fault> {
-    open(
-        plan,
-        path(),
-        2,
-        2,
-        &ALL_FIRST,
-        &ALL_SCHEDULE,
-        &ALL_STARTS,
-        &NO_WAITS,
+    plan.open(
+        tiling(path(), 2, 2, &ALL_FIRST),
+        layout(&ALL_SCHEDULE, &ALL_STARTS, &NO_WAITS),
     )
 }
 
@@ -381,7 +343,7 @@ fn a_plan_not_its_own(rt: HostRuntime) -> Result<(), Fail> {
     let mut other = Plan::built_in();
     open_all_first(&mut other)?;
     let mut vector = [0.0; 3];
-    let mut run = Run::begin(&Doubles, &plan, &COEFFICIENTS, &RIGHT_HAND_SIDE, &vector)?;
+    let mut run = Run::begin(&doubles(&plan), &vector)?;
     let first = call(&mut run, &other, &mut vector, 0);
     let between = vector;
     let second = call(&mut run, &plan, &mut vector, 1);
@@ -403,8 +365,9 @@ static PAIR_MINUTES: [u32; 4] = [0, 3, 0, 3];
 
 static PAIR_ARRIVALS: [u32; 2] = [10, NEVER];
 
-fn pair<'a>() -> Matrix<'a> {
-    Matrix::new(2, 4, &PAIR_STARTS, &PAIR_COLUMNS)
+fn pair_tiling<'a>() -> Tiling<'a> {
+    let matrix = Matrix::new(2, 4, &PAIR_STARTS, &PAIR_COLUMNS);
+    tiling(matrix, 1, 64, &PAIR_TILES)
 }
 
 // Tile 0 is row 0, tile 63 is row 1 and waits for tile 0, and the tiles between have no points.
@@ -416,24 +379,14 @@ fn run_pair<'a>(
     vector: &mut [u32],
 ) -> Result<Closing, Fault> {
     let mut plan = Plan::built_in();
-    open(
-        &mut plan,
-        pair(),
-        1,
-        64,
-        &PAIR_TILES,
-        schedule,
-        starts,
-        words,
-    )?;
-    run_tiles(
-        &Minutes,
-        &plan,
-        &PAIR_MINUTES,
-        &PAIR_ARRIVALS,
-        vector,
-        calls,
-    )
+    plan.open(pair_tiling(), layout(schedule, starts, words))?;
+    let system = TiledSystem {
+        arithmetic: &Minutes,
+        plan: &plan,
+        coefficients: &PAIR_MINUTES,
+        right_hand_side: &PAIR_ARRIVALS,
+    };
+    run_tiles(&system, vector, calls)
 }
 
 // Bits 0, 5 and 63 are 9223372036854775841.
@@ -442,15 +395,7 @@ fn the_last_of_64_tiles(rt: HostRuntime) -> Result<(), Fail> {
     let mut schedule = [9; 2];
     let mut starts = [9; 65];
     let mut words = [9; 64];
-    lay_out(
-        &pair(),
-        1,
-        64,
-        &PAIR_TILES,
-        &mut schedule,
-        &mut starts,
-        &mut words,
-    )?;
+    lay_out(&pair_tiling(), &mut schedule, &mut starts, &mut words)?;
     let mut vector = [NEVER; 2];
     let closing = run_pair(&schedule, &starts, &words, &[63, 64, 5], &mut vector)?;
     assert_eq!(rt; vector, [NEVER, NEVER]);

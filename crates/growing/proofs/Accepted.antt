@@ -42,6 +42,7 @@ module _ (m : Pattern) where
 module _ (m : Pattern) (t k s : ℕ) (seed : List ℕ) (cells marked : ℕ) where
   pub record Accepted : Type 0 where
     pub sound : Sound m
+    pub some : 0 < m.rows
     pub tiles : Tiles m k seed
     pub first : 0 < s
     pub last : s ≤ t
@@ -71,6 +72,7 @@ module _ (m : Pattern) (t k s : ℕ) (seed : List ℕ) (cells marked : ℕ) wher
       let n = length_passed Matrix Table.Seed (length seed) m.rows seed_length.0 in
       record {
         sound = sound_from m long wide (lowest_passed Matrix check.RowStart (bad_start m) (length m.starts) starts_passed.0) (lowest_passed Matrix check.Column (bad_column m) (length m.columns) columns_passed.0);
+        some = let z = ltb-false m.rows 1 (or_parts (ltb m.rows 1) (ltb 1_048_576 m.rows) (fault_passed Matrix check.Size 1 _ rows_size.0)).0 in omega arith;
         tiles = (n, λ v l. ltb-true (at seed v) k (not-false _ (lowest_passed Matrix check.Seed (bad_seed k seed) (length seed) seed_passed v (omega arith))));
         first = omega (arith, ltb-false s 1 seed_size.0);
         last = ltb-false t s seed_size.1;

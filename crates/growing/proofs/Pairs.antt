@@ -1,17 +1,15 @@
 -- What a pull leaves, and pulls one after another. Assumes nothing.
-use Rattle.std.proofs.Common.{◌≡◌, ℕ, ◌+◌, ◌<◌, ◌≤◌, Bool, true, false, ◌||◌, ◌⊎◌, List, length, set, fold, sym, refl, ap, ◌∙◌, subst, inl, inr, ⊎_elim, arith, length-set}
+use Rattle.std.proofs.Common.{◌≡◌, ℕ, ◌+◌, ◌<◌, ◌≤◌, Bool, true, false, cond, eqb, ◌||◌, ◌⊎◌, Option, Some, None, List, length, set, fold, sym, refl, ap, ◌∙◌, subst, inl, inr, ⊎_elim, arith, length-set}
 use Rattle.std.proofs.lemmas.List.{get_or-set_same, get_or-set_other, set-get_or}
 use Rattle.std.proofs.lemmas.List.Sums.{sum_by-set, fold_push}
 use Rattle.std.proofs.lemmas.Bool.{cases_eq, false≢true, or_parts, cond-true, cond-false, eq-eqb, ne_eqb}
 use Rattle.checks.specs.Lists.{at, upto}
 use Rattle.growing.specs.declared.direction.Direction.{Direction}
 use Rattle.growing.specs.declared.direction.Direction.TheVariants.{Down, Up}
-use Rattle.growing.specs.declared.pulling.Growth.{Growth}
-use Rattle.growing.specs.Directions.{best_of, Better, far, row_first, column_first_of}
-use Rattle.growing.specs.Passes.{with_cells, own_of, near_of, Placed, pulled, far_all, Pulls, entry_step}
+use Rattle.growing.specs.Directions.{best_of, Better, far, row_first, column_first_of, entry_pair}
+use Rattle.growing.specs.Passes.{pulled, far_all, Pulls, entry_step}
 use Rattle.growing.proofs.Betters as better
 use Rattle.growing.proofs.Rows.{upto_more}
-use Rattle.growing.proofs.Cells.{length_cells, own_with, cells_with, cells_apart, length_with, with_with, set_cells, at_cells}
 
 at_set : (g : List ℕ) (i x u : ℕ) → i < length g → ((u ≡ i) × (at (set g i x) u ≡ x)) ⊎ ((u ≡ i → ⊥) × (at (set g i x) u ≡ at g u))
 at_set g i x u l = ⊎_elim (λ e. inl (e, ap (λ y. at (set g i x) y) e ∙ get_or-set_same g i x 0 l)) (λ n. inr (n, get_or-set_other g i u x 0 n)) (cases_eq u i)
@@ -92,100 +90,51 @@ module _ (d : Direction) (near g : List ℕ) (a b : ℕ) (la : a < length g) (lb
         | inr r ↦ let f = ap (far d 255) r.1 in ⊎_elim (λ l. omega arith) (λ l. omega arith) some
       ]
 
-module _ (w : Growth) (table : List ℕ) (placed : Placed w (length table)) where
-  -- what a step leaves: the new cells, the neighbour as it was
-  module _ (g : List ℕ) (size : length g ≡ w.rows) where
-    pub own_after : own_of w (with_cells w.own g table) ≡ g
-    own_after = cells_with table w.own w.rows placed.1 g size
+  -- the cells written by a pull
+  module _ (x y : ℕ) (ka : at g a ≤ 255) (kb : at g b ≤ 255) (kn : at near a ≤ 255) (ex : x ≡ best_of d (at g b) (at near a)) (ey : y ≡ best_of d (at g a) x) where
+    pub pull_pulls : (moved : Bool) → (moved ≡ false → (x ≡ at g b) × (y ≡ at g a)) → (moved ≡ true → (x ≡ at g b → ⊥) ⊎ (y ≡ at g a → ⊥)) → Pulls d (λ g. pulled d near g a b) moved g (set (set g b x) a y)
+    unfolding bound tile
+    pull_pulls moved f t =
+        let by : y ≡ best_of d (at g a) (best_of d (at g b) (at near a)) = ey ∙ ap (best_of d (at g a)) ex in
+        let is : set (set g b x) a y ≡ pulled d near g a b = ap (λ i. set (set g b i) a y) ex ∙ ap (λ i. set (set g b (best_of d (at g b) (at near a))) a i) by in
+        record {
+          is_put = is;
+          still = λ e. let p = f e in is ∙ pulled_still (sym ex ∙ p.0) (sym by ∙ p.1);
+          nearer = λ e. subst (λ z. far_all d z < far_all d g) (sym is) (pulled_nearer ka kb kn (⊎_elim (λ q. inl (λ z. q (ex ∙ z))) (λ q. inr (λ z. q (by ∙ z))) (t e)));
+        }
 
-    pub near_after : near_of w (with_cells w.own g table) ≡ near_of w table
-    near_after = cells_apart table w.own w.rows placed.1 g size w.near w.rows placed.2
+module _ (d : Direction) where
+  pub pulls_none : (x : List ℕ) → Pulls d (λ g. g) false x x
+  pulls_none x = record { is_put = refl; still = λ _. refl; nearer = λ e. absurd (false≢true e) }
 
-    pub placed_after : length (with_cells w.own g table) ≡ length table
-    placed_after = length_with table w.own w.rows placed.1 g size
+  -- a step under another name
+  pub pulls_as : (f h : List ℕ → List ℕ) (b : Bool) (x y : List ℕ) → f x ≡ h x → Pulls d f b x y → Pulls d h b x y
+  pulls_as f h b x y e p = record { is_put = p.is_put ∙ e; still = p.still; nearer = p.nearer }
 
-  pub pulls_none : Pulls w (λ near g. g) false table table
-  pulls_none = record { size = length_cells table w.own w.rows placed.1; is_put = own_with table w.own w.rows placed.1; still = λ _. refl; nearer = λ e. absurd (false≢true e) }
+  -- what it leaves under other names
+  pub pulls_at : (f : List ℕ → List ℕ) (x : List ℕ) {b c : Bool} {y z : List ℕ} → c ≡ b → z ≡ y → Pulls d f b x y → Pulls d f c x z
+  pulls_at f x {b} {c} {y} {z} e i p = subst (λ t. Pulls d f t x z) (sym e) (subst (λ t. Pulls d f b x t) (sym i) p)
 
-  module _ (a b : ℕ) (la : a < w.rows) (lb : b < w.rows) (x y : ℕ) where
-    two_set : set (set table (w.own + b) x) (w.own + a) y ≡ with_cells w.own (set (set (own_of w table) b x) a y) table
-    two_set =
-        let g = own_of w table in
-        let n = length_cells table w.own w.rows placed.1 in
-        let e1 : length (set g b x) ≡ w.rows = length-set g b x ∙ n in
-        let t1 = with_cells w.own (set g b x) table in
-        let k : w.own + w.rows ≤ length t1 = omega (arith, placed_after (set g b x) e1, placed.1) in
-        ap (λ t. set t (w.own + a) y) (set_cells table w.own w.rows placed.1 b x lb)
-        ∙ set_cells t1 w.own w.rows k a y la
-        ∙ ap (λ z. with_cells w.own (set z a y) t1) (own_after (set g b x) e1)
-        ∙ with_with table w.own w.rows placed.1 (set g b x) e1 (set (set g b x) a y) (length-set (set g b x) a y ∙ e1)
-
-    -- the cells read by a pull, and what it writes
-    module _ (ga gb na : ℕ) (ea : ga ≡ at table (w.own + a)) (eb : gb ≡ at table (w.own + b)) (en : na ≡ at table (w.near + a))
-        (ka : ga ≤ 255) (kb : gb ≤ 255) (kn : na ≤ 255) (ex : x ≡ best_of w.direction gb na) (ey : y ≡ best_of w.direction ga x) where
-      pub pull_pulls : (moved : Bool) → (moved ≡ false → (x ≡ gb) × (y ≡ ga)) → (moved ≡ true → (x ≡ gb → ⊥) ⊎ (y ≡ ga → ⊥))
-          → Pulls w (λ near g. pulled w.direction near g a b) moved table (set (set table (w.own + b) x) (w.own + a) y)
-      unfolding bound tile
-      pull_pulls moved f t =
-          let g = own_of w table in
-          let nr = near_of w table in
-          let d = w.direction in
-          let n = length_cells table w.own w.rows placed.1 in
-          let ia : at g a ≡ ga = at_cells table w.own w.rows placed.1 a la ∙ sym ea in
-          let ib : at g b ≡ gb = at_cells table w.own w.rows placed.1 b lb ∙ sym eb in
-          let jn : at nr a ≡ na = at_cells table w.near w.rows placed.0 a la ∙ sym en in
-          let lga : a < length g = omega arith in
-          let lgb : b < length g = omega arith in
-          let bx : x ≡ best_of d (at g b) (at nr a) = ex ∙ ap (λ i. best_of d i na) (sym ib) ∙ ap (best_of d (at g b)) (sym jn) in
-          let by : y ≡ best_of d (at g a) (best_of d (at g b) (at nr a)) = ey ∙ ap (λ i. best_of d i x) (sym ia) ∙ ap (best_of d (at g a)) bx in
-          let size : length (pulled d nr g a b) ≡ w.rows = length_pulled d nr g a b lga lgb ∙ n in
-          let is : set (set table (w.own + b) x) (w.own + a) y ≡ with_cells w.own (pulled d nr g a b) table =
-          two_set ∙ ap (λ i. with_cells w.own (set (set g b i) a y) table) bx ∙ ap (λ i. with_cells w.own (set (set g b (best_of d (at g b) (at nr a))) a i) table) by in
-          record {
-            size = size;
-            is_put = is;
-            still = λ e. let p = f e in
-                is ∙ ap (λ z. with_cells w.own z table) (pulled_still d nr g a b lga lgb (sym bx ∙ p.0 ∙ sym ib) (sym by ∙ p.1 ∙ sym ia)) ∙ sym (own_with table w.own w.rows placed.1);
-            nearer = λ e.
-                subst (λ z. far_all d z < far_all d g) (sym (ap (own_of w) is ∙ own_after (pulled d nr g a b) size))
-                (pulled_nearer d nr g a b lga lgb (omega arith) (omega arith) (omega arith) (⊎_elim (λ q. inl (λ z. q (bx ∙ z ∙ ib))) (λ q. inr (λ z. q (by ∙ z ∙ ia))) (t e)));
-          }
-
--- a step under another name
-pub pulls_as : (w : Growth) (f h : List ℕ → List ℕ → List ℕ) (b : Bool) (x y : List ℕ) → f (near_of w x) (own_of w x) ≡ h (near_of w x) (own_of w x) → Pulls w f b x y → Pulls w h b x y
-pulls_as w f h b x y e p = record { size = ap length (sym e) ∙ p.size; is_put = p.is_put ∙ ap (λ t. with_cells w.own t x) e; still = p.still; nearer = p.nearer }
-
--- one step more, and whether either moved
-module _ (w : Growth) (f : List ℕ → List ℕ → List ℕ) (h : List ℕ → List ℕ → List ℕ) (b c : Bool) (x y z : List ℕ) (placed : Placed w (length x)) where
-  pub pulls_then : Pulls w f b x y → Pulls w h c y z → Pulls w (λ near g. h near (f near g)) (b || c) x z
-  pulls_then p q =
-      let g = f (near_of w x) (own_of w x) in
-      let o : own_of w y ≡ g = ap (own_of w) p.is_put ∙ own_after w x placed g p.size in
-      let r : near_of w y ≡ near_of w x = ap (near_of w) p.is_put ∙ near_after w x placed g p.size in
-      let e : h (near_of w y) (own_of w y) ≡ h (near_of w x) g = ap (λ n. h n (own_of w y)) r ∙ ap (h (near_of w x)) o in
-      let size : length (h (near_of w x) g) ≡ w.rows = ap length (sym e) ∙ q.size in
-      record {
-        size = size;
-        is_put = q.is_put ∙ ap (λ i. with_cells w.own i y) e ∙ ap (with_cells w.own (h (near_of w x) g)) p.is_put ∙ with_with x w.own w.rows placed.1 g p.size (h (near_of w x) g) size;
-        still = λ k. let t = or_parts b c k in q.still t.1 ∙ p.still t.0;
-        nearer = λ k. by b c refl refl k;
-      }
+  -- one step more, and whether either moved
+  pub pulls_then : (f h : List ℕ → List ℕ) (b c : Bool) (x y z : List ℕ) → Pulls d f b x y → Pulls d h c y z → Pulls d (λ g. h (f g)) (b || c) x z
+  pulls_then f h b c x y z p q = record {
+    is_put = q.is_put ∙ ap h p.is_put;
+    still = λ k. let t = or_parts b c k in q.still t.1 ∙ p.still t.0;
+    nearer = λ k. by b c refl refl k;
+  }
     where
-      by : (b' c' : Bool) → b ≡ b' → c ≡ c' → (b' || c') ≡ true → far_all w.direction (own_of w z) < far_all w.direction (own_of w x)
+      by : (b' c' : Bool) → b ≡ b' → c ≡ c' → (b' || c') ≡ true → far_all d z < far_all d x
       by true true eb ec k = let i = p.nearer eb in let j = q.nearer ec in omega arith
-      by true false eb ec k = let i = p.nearer eb in let j = ap (λ t. far_all w.direction (own_of w t)) (q.still ec) in omega arith
-      by false true eb ec k = let i = ap (λ t. far_all w.direction (own_of w t)) (p.still eb) in let j = q.nearer ec in omega arith
+      by true false eb ec k = let i = p.nearer eb in let j = ap (far_all d) (q.still ec) in omega arith
+      by false true eb ec k = let i = ap (far_all d) (p.still eb) in let j = q.nearer ec in omega arith
       by false false eb ec k = absurd (false≢true k)
 
--- a loop's step: the i-th of a list of steps
-pub pulls_more : (w : Growth) (f : List ℕ → List ℕ → ℕ → List ℕ) (i : ℕ) (b c : Bool) (x y z : List ℕ) → Placed w (length x)
-    → Pulls w (λ near g. fold (f near) g (upto i)) b x y → Pulls w (λ near g. f near g i) c y z → Pulls w (λ near g. fold (f near) g (upto (i + 1))) (b || c) x z
-pulls_more w f i b c x y z placed p q =
-    let near = near_of w x in
-    let g = own_of w x in
-    pulls_as w (λ near g. f near (fold (f near) g (upto i)) i) (λ near g. fold (f near) g (upto (i + 1))) (b || c) x z
-    (sym (ap (fold (f near) g) (upto_more i) ∙ fold_push (f near) g (upto i) i))
-    (pulls_then w (λ near g. fold (f near) g (upto i)) (λ near g. f near g i) b c x y z placed p q)
+  -- a loop's step: the i-th of a list of steps
+  pub pulls_more : (f : List ℕ → ℕ → List ℕ) (i : ℕ) (b c : Bool) (x y z : List ℕ) → Pulls d (λ g. fold f g (upto i)) b x y → Pulls d (λ g. f g i) c y z → Pulls d (λ g. fold f g (upto (i + 1))) (b || c) x z
+  pulls_more f i b c x y z p q =
+      pulls_as (λ g. f (fold f g (upto i)) i) (λ g. fold f g (upto (i + 1))) (b || c) x z
+      (sym (ap (fold f x) (upto_more i) ∙ fold_push f x (upto i) i))
+      (pulls_then (λ g. fold f g (upto i)) (λ g. f g i) b c x y z p q)
 
 module _ (d : Direction) (near : List ℕ) (row : ℕ) (g : List ℕ) (column mark : ℕ) where
   apart : row_first d ≡ column_first_of d → ⊥
@@ -206,3 +155,25 @@ module _ (d : Direction) (near : List ℕ) (row : ℕ) (g : List ℕ) (column ma
   pub entry_none : (mark ≡ row_first d → ⊥) → (mark ≡ column_first_of d → ⊥) → entry_step d near row g column mark ≡ g
   unfolding entry_step
   entry_none p q = cond-false _ _ _ (ne_eqb mark (row_first d) p) ∙ cond-false _ _ _ (ne_eqb mark (column_first_of d) q)
+
+  -- a pair, or none, pulls
+  by_pair : Option (ℕ × ℕ) → List ℕ
+  by_pair None = g
+  by_pair (Some p) = pulled d near g p.0 p.1
+
+  entry_by : by_pair (entry_pair d row column mark) ≡ entry_step d near row g column mark
+  unfolding entry_step by_pair
+  entry_by = go (eqb mark (row_first d)) (eqb mark (column_first_of d))
+    where
+      go : (p q : Bool) → by_pair (cond p (Some (row, column)) (cond q (Some (column, row)) None)) ≡ cond p (pulled d near g row column) (cond q (pulled d near g column row) g)
+      go true q = refl
+      go false true = refl
+      go false false = refl
+
+  pub entry_pulls : (p : ℕ × ℕ) → entry_pair d row column mark ≡ Some p → pulled d near g p.0 p.1 ≡ entry_step d near row g column mark
+  unfolding by_pair
+  entry_pulls p e = ap by_pair (sym e) ∙ entry_by
+
+  pub entry_idle : entry_pair d row column mark ≡ None → g ≡ entry_step d near row g column mark
+  unfolding by_pair
+  entry_idle e = ap by_pair (sym e) ∙ entry_by

@@ -1,5 +1,5 @@
 -- The two directions of growing as one: which tile is best, and which pairs of rows pull on one another. Assumes nothing.
-use Rattle.std.specs.Prelude.{ℕ, ◌-◌, ◌*◌, ◌≤◌, min, max, Bool, List, [], ◌∷◌, ◌++◌}
+use Rattle.std.specs.Prelude.{ℕ, ◌-◌, ◌*◌, ◌≤◌, min, max, Bool, cond, Option, Some, None, List, [], ◌∷◌, ◌++◌, ◌==◌}
 use Rattle.matrix.specs.Patterns.{Pattern}
 use Rattle.growing.specs.Growing.{before, round, rounds}
 use Rattle.growing.specs.declared.direction.Direction.{Direction}
@@ -43,3 +43,7 @@ row_first Up = 2
 abbrev pub column_first_of : Direction → ℕ
 column_first_of Down = 2
 column_first_of Up = 1
+
+-- the pair of rows that an entry's mark names, its first row first
+abbrev pub entry_pair : Direction → ℕ → ℕ → ℕ → Option (ℕ × ℕ)
+entry_pair d row column mark = cond (mark == row_first d) (Some (row, column)) (cond (mark == column_first_of d) (Some (column, row)) None)

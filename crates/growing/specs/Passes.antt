@@ -1,9 +1,8 @@
 -- The steps of growing one sweep in place: pulls of pairs, entry by entry, row by row. Assumes nothing.
-use Rattle.std.specs.Prelude.{◌≡◌, ℕ, ◌+◌, ◌-◌, ◌<◌, ◌≤◌, Bool, true, false, cond, ◌⊎◌, List, ◌++◌, length, take, drop, fold, sum_by, ◌==◌, slice_set}
+use Rattle.std.specs.Prelude.{◌≡◌, ℕ, ◌+◌, ◌-◌, ◌<◌, Bool, true, false, cond, List, ◌++◌, length, take, drop, fold, sum_by, ◌==◌, slice_set}
 use Rattle.checks.specs.Lists.{at, upto}
 use Rattle.matrix.specs.Patterns.{Pattern, row_part}
 use Rattle.growing.specs.declared.direction.Direction.{Direction}
-use Rattle.growing.specs.declared.pulling.Growth.{Growth}
 use Rattle.growing.specs.Directions.{best_of, far, row_first, column_first_of}
 
 -- n cells of a table from place a on
@@ -13,18 +12,6 @@ cells a n table = take n (drop a table)
 -- the table with other cells from place a on
 abbrev pub with_cells : ℕ → List ℕ → List ℕ → List ℕ
 with_cells a g table = take a table ++ (g ++ drop (a + length g) table)
-
--- the sweep that is grown, and its neighbour
-abbrev pub own_of : Growth → List ℕ → List ℕ
-own_of w table = cells w.own w.rows table
-
--- its neighbour
-abbrev pub near_of : Growth → List ℕ → List ℕ
-near_of w table = cells w.near w.rows table
-
--- both stand within a table of n cells, apart from one another
-abbrev pub Placed : Growth → ℕ → Type 0
-Placed w n = (w.near + w.rows ≤ n) × (w.own + w.rows ≤ n) × ((w.near + w.rows ≤ w.own) ⊎ (w.own + w.rows ≤ w.near))
 
 -- the second row's tile is pulled by the first's in the neighbouring sweep, then the first's by the second's
 abbrev pub pulled : Direction → List ℕ → List ℕ → ℕ → ℕ → List ℕ
@@ -63,17 +50,15 @@ pass d backward m marks near g = fold (pass_row d backward m marks near) g (upto
 abbrev pub far_all : Direction → List ℕ → ℕ
 far_all d g = sum_by (far d 255) g
 
--- what a step f leaves of the table, and whether it moved a tile
-pub record Pulls (w : Growth) (f : List ℕ → List ℕ → List ℕ) (moved : Bool) (was is : List ℕ) : Type 0 where
-  pub size : length (f (near_of w was) (own_of w was)) ≡ w.rows
-  pub is_put : is ≡ with_cells w.own (f (near_of w was) (own_of w was)) was
+-- what a step f leaves of a sweep, and whether it moved a tile
+pub record Pulls (d : Direction) (f : List ℕ → List ℕ) (moved : Bool) (was is : List ℕ) : Type 0 where
+  pub is_put : is ≡ f was
   pub still : moved ≡ false → is ≡ was
-  pub nearer : moved ≡ true → far_all w.direction (own_of w is) < far_all w.direction (own_of w was)
+  pub nearer : moved ≡ true → far_all d is < far_all d was
 
--- passes from the table `was`, in turns, the last of which moved nothing unless `moved`
-pub record Settles (w : Growth) (m : Pattern) (marks : List ℕ) (moved : Bool) (was is : List ℕ) : Type 0 where
+-- passes from the sweep `was`, in turns, the last of which moved nothing unless `moved`
+pub record Settles (d : Direction) (m : Pattern) (marks near : List ℕ) (moved : Bool) (was is : List ℕ) : Type 0 where
   pub turns : List Bool
-  pub passed : own_of w is ≡ fold (λ g backward. pass w.direction backward m marks (near_of w was) g) (own_of w was) turns
-  pub is_put : is ≡ with_cells w.own (own_of w is) was
+  pub passed : is ≡ fold (λ g backward. pass d backward m marks near g) was turns
   pub last : Bool
-  pub still : moved ≡ false → pass w.direction last m marks (near_of w was) (own_of w is) ≡ own_of w is
+  pub still : moved ≡ false → pass d last m marks near is ≡ is

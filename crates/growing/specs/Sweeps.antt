@@ -2,11 +2,11 @@
 use Rattle.std.specs.Prelude.{◌≡◌, ℕ, suc, ◌-◌, ◌*◌, List, [], ◌∷◌, map}
 use Rattle.std.specs.List.{range_with_len}
 use Rattle.matrix.specs.Patterns.{Pattern}
-use Rattle.growing.specs.declared.pulling.Growth.{Growth}
+use Rattle.growing.specs.declared.direction.Direction.{Direction}
 use Rattle.growing.specs.Growing.{down, up, marks_of, tile_table_of, marks}
 use Rattle.growing.specs.Greatest.{Tiles, OneWay}
 use Rattle.growing.specs.Directions.{next, added}
-use Rattle.growing.specs.Passes.{cells, with_cells, own_of, near_of}
+use Rattle.growing.specs.Passes.{cells}
 
 -- sweep c, counted from 0, in a tile table for r rows
 abbrev pub sweep_at : ℕ → List ℕ → ℕ → List ℕ
@@ -22,11 +22,10 @@ pub record Held (m : Pattern) (k : ℕ) (near : List ℕ) (grown : List (List �
   pub one_way : OneWay m grown
   pub marked : marks ≡ marks_of m grown
 
--- what growing one sweep more leaves of the table and of the marks
-pub record Grows (w : Growth) (m : Pattern) (was is marks_were marks_are : List ℕ) : Type 0 where
-  pub is_put : is ≡ with_cells w.own (own_of w is) was
-  pub grows : (k : ℕ) (grown : List (List ℕ)) → Held m k (near_of w was) grown marks_were
-      → (own_of w is ≡ next w.direction m k grown (near_of w was)) × Held m k (own_of w is) (added w.direction (own_of w is) grown) marks_are
+-- what growing one sweep more, `is`, from its neighbour leaves of the sweep and of the marks
+pub record Grows (d : Direction) (m : Pattern) (near is marks_were marks_are : List ℕ) : Type 0 where
+  pub grows : (k : ℕ) (grown : List (List ℕ)) → Held m k near grown marks_were
+      → (is ≡ next d m k grown near) × Held m k is (added d is grown) marks_are
 
 -- down from sweep `from` the sweeps are grown as far as `to`: growing the rest gives all
 pub record GrownDown (m : Pattern) (from to : ℕ) (was is marks_were marks_are : List ℕ) : Type 0 where

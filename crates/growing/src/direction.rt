@@ -1,6 +1,6 @@
 // Which way a sweep is grown from its neighbour.
 ghost use Rattle.std.specs.Prelude.{◌≡◌};
-ghost use Rattle.growing.specs.Directions.{best_of, row_first, column_first_of};
+ghost use Rattle.growing.specs.Directions.{best_of, entry_pair};
 
 #[derive(Clone, Copy)]
 pub(crate) enum Direction {
@@ -19,22 +19,14 @@ impl Direction {
         }
     }
 
-    // The mark of an entry whose row is the first of its pair: going down the one that comes before, going up the other.
-    pub(crate) fn row_first(self) -> u8
-        ensures { result ≡ row_first self }
+    // The pair of rows that an entry's mark names, its first row first: going down the one that comes before, going up the other.
+    pub(crate) fn pair(self, row: usize, column: usize, mark: u8) -> Option<(usize, usize)>
+        ensures { result ≡ entry_pair self row column mark }
     {
-        match self {
-            Direction::Down => 1,
-            Direction::Up => 2,
-        }
-    }
-
-    pub(crate) fn column_first(self) -> u8
-        ensures { result ≡ column_first_of self }
-    {
-        match self {
-            Direction::Down => 2,
-            Direction::Up => 1,
+        match (self, mark) {
+            (Direction::Down, 1) | (Direction::Up, 2) => Some((row, column)),
+            (Direction::Down, 2) | (Direction::Up, 1) => Some((column, row)),
+            _ => None,
         }
     }
 }

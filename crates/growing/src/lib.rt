@@ -14,30 +14,36 @@ mod checking;
 mod direction;
 mod marking;
 mod pulling;
+mod sound;
 mod sweeping;
 
 use checks::Fault;
 use matrix::pattern::Matrix;
+use sound::SoundMatrix;
 
-// The tile table and the marks of a matrix, from the seed in sweep `seed_sweep` of `sweeps`, its tiles below `tiles`.
+// What a tile table is grown from: the tile of each row in sweep `seed_sweep` of `sweeps`, all of them below `tiles`.
+#[derive(Clone, Copy)]
+pub struct Seeding<'a> {
+    pub sweeps: u32,
+    pub tiles: u32,
+    pub seed_sweep: u32,
+    pub seed: &'a [u8],
+}
+
+// The tile table and the marks of a matrix.
 pub fn grow(
-    matrix: &Matrix,
-    sweeps: u32,
-    tiles: u32,
-    seed_sweep: u32,
-    seed: &[u8],
+    matrix: &Matrix<'_>,
+    seeding: &Seeding<'_>,
     tile_table: &mut [u8],
     marks: &mut [u8],
 ) -> Result<(), Fault>
-    ensures fault { result_err result ≡ growing_fault (pattern_of matrix.now) sweeps tiles seed_sweep seed.now (length tile_table.old) (length marks.old) }
-    ensures tiled { tile_table.new ≡ unless_refused (growing_fault (pattern_of matrix.now) sweeps tiles seed_sweep seed.now (length tile_table.old) (length marks.old)) (tile_table_of (pattern_of matrix.now) sweeps seed_sweep tiles seed.now) tile_table.old }
-    ensures marked { marks.new ≡ unless_refused (growing_fault (pattern_of matrix.now) sweeps tiles seed_sweep seed.now (length tile_table.old) (length marks.old)) (marks_grown (pattern_of matrix.now) sweeps seed_sweep tiles seed.now) marks.old }
+    ensures fault { result_err result ≡ growing_fault (pattern_of matrix.now) seeding.now.sweeps seeding.now.tiles seeding.now.seed_sweep seeding.now.seed.now (length tile_table.old) (length marks.old) }
+    ensures tiled { tile_table.new ≡ unless_refused (growing_fault (pattern_of matrix.now) seeding.now.sweeps seeding.now.tiles seeding.now.seed_sweep seeding.now.seed.now (length tile_table.old) (length marks.old)) (tile_table_of (pattern_of matrix.now) seeding.now.sweeps seeding.now.seed_sweep seeding.now.tiles seeding.now.seed.now) tile_table.old }
+    ensures marked { marks.new ≡ unless_refused (growing_fault (pattern_of matrix.now) seeding.now.sweeps seeding.now.tiles seeding.now.seed_sweep seeding.now.seed.now (length tile_table.old) (length marks.old)) (marks_grown (pattern_of matrix.now) seeding.now.sweeps seeding.now.seed_sweep seeding.now.tiles seeding.now.seed.now) marks.old }
 {
-    let (cells, marked) = (tile_table.len(), marks.len());
-    checking::check(matrix, sweeps, tiles, seed_sweep, seed, cells, marked)?;
-    let from = seed_sweep as usize - 1;
-    let last = sweeps as usize - 1;
-    sweeping::grow_all(matrix, from, last, seed, tile_table, marks);
+    checking::check(matrix, seeding, tile_table.len(), marks.len())?;
+    let sound = SoundMatrix { matrix: *matrix };
+    sound.grow_all(seeding, tile_table, marks);
     Ok(())
 }
 
@@ -76,14 +82,26 @@ mod tests {
         columns: &[0, 1, 1, 0, 2, 2, 1],
     };
 
+    const SEEDING3: Seeding<'static> = Seeding {
+        sweeps: 2,
+        tiles: 2,
+        seed_sweep: 1,
+        seed: &[1, 0, 0],
+    };
+
     #[test]
     fn path_of_three(rt: HostRuntime) -> Result<(), Fail> {
         let mut tile_table = [9; 6];
         let mut marks = [9; 7];
-        grow(&PATH3, 2, 2, 1, &[1, 0, 0], &mut tile_table, &mut marks)?;
+        grow(&PATH3, &SEEDING3, &mut tile_table, &mut marks)?;
         assert_eq!(rt; tile_table, [1, 0, 0, 1, 1, 0]);
         assert_eq!(rt; marks, [0, 2, 0, 1, 2, 0, 1]);
-        grow(&PATH3, 2, 64, 2, &[1, 0, 0], &mut tile_table, &mut marks)?;
+        let seeding = Seeding {
+            tiles: 64,
+            seed_sweep: 2,
+            ..SEEDING3
+        };
+        grow(&PATH3, &seeding, &mut tile_table, &mut marks)?;
         assert_eq!(rt; tile_table, [0, 0, 0, 1, 0, 0]);
         assert_eq!(rt; marks, [0, 2, 0, 1, 0, 0, 0]);
         Ok(())
@@ -99,9 +117,19 @@ mod tests {
         };
         let mut tile_table = [9; 8];
         let mut marks = [9; 10];
-        grow(&matrix, 2, 4, 2, &[1, 2, 3, 0], &mut tile_table, &mut marks)?;
+        let seeding = Seeding {
+            sweeps: 2,
+            tiles: 4,
+            seed_sweep: 2,
+            seed: &[1, 2, 3, 0],
+        };
+        grow(&matrix, &seeding, &mut tile_table, &mut marks)?;
         assert_eq!(rt; tile_table, [0, 0, 0, 0, 1, 2, 3, 0]);
-        grow(&matrix, 2, 4, 1, &[1, 2, 3, 0], &mut tile_table, &mut marks)?;
+        let seeding = Seeding {
+            seed_sweep: 1,
+            ..seeding
+        };
+        grow(&matrix, &seeding, &mut tile_table, &mut marks)?;
         assert_eq!(rt; tile_table, [1, 2, 3, 0, 2, 3, 3, 3]);
         Ok(())
     }
@@ -109,15 +137,12 @@ mod tests {
     fn refused(rt: &impl Abort, tiles: u32, seed_sweep: u32, check: Check, place: usize) {
         let mut tile_table = [9; 6];
         let mut marks = [9; 7];
-        let answer = grow(
-            &PATH3,
-            2,
+        let seeding = Seeding {
             tiles,
             seed_sweep,
-            &[1, 0, 0],
-            &mut tile_table,
-            &mut marks,
-        );
+            ..SEEDING3
+        };
+        let answer = grow(&PATH3, &seeding, &mut tile_table, &mut marks);
         let layer = Layer::Matrix;
         assert_eq!(rt;
             answer,

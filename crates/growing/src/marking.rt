@@ -2,8 +2,9 @@
 ghost use Rattle.std.specs.Prelude.{◌≡◌, ◌<◌, length};
 ghost use Rattle.std.specs.List.{AllByRecursion};
 ghost use Rattle.matrix.specs.Lent.{pattern_of};
-ghost use Rattle.growing.specs.Marks.{Sound, remark, remarked, remarked_all};
+ghost use Rattle.growing.specs.Marks.{remark, remarked, remarked_all};
 
+use crate::sound::SoundMatrix;
 use matrix::pattern::Matrix;
 
 // 1 where the row's tile is the lower, 2 where the column's is, and as it was where they are equal.
@@ -25,21 +26,28 @@ fn mark_row(tiles: &[u8], row: usize, columns: &[u32], marks: &mut [u8])
     requires marks { length marks.old ≡ length columns.now }
     ensures { marks.new ≡ remarked tiles.now row columns.now marks.old }
 {
-    for e in 0..columns.len() {
-        marks[e] = remark(tiles[row], tiles[columns[e] as usize], marks[e]);
+    // Kept: of marks written through a zip of iter_mut the loop's proof knows nothing afterwards.
+    for (e, mark) in marks.iter_mut().enumerate() {
+        *mark = remark(tiles[row], tiles[columns[e] as usize], *mark);
     }
 }
 
-// Every entry, by the tiles of a sweep that is final.
-pub(crate) fn mark_sweep(matrix: &Matrix, tiles: &[u8], marks: &mut [u8])
-    requires sound { Sound (pattern_of matrix.now) }
-    requires tiles { length tiles.now ≡ matrix.now.rows }
-    requires marks { length marks.old ≡ length matrix.now.columns.now }
-    ensures { marks.new ≡ remarked_all (pattern_of matrix.now) tiles.now marks.old }
-{
-    for row in 0..matrix.rows as usize {
-        let from = matrix.starts[row] as usize;
-        let to = matrix.starts[row + 1] as usize;
-        mark_row(tiles, row, &matrix.columns[from..to], &mut marks[from..to]);
+impl SoundMatrix<'_> {
+    // Every entry, by the tiles of a sweep that is final.
+    pub(crate) fn mark_sweep(&self, tiles: &[u8], marks: &mut [u8])
+        requires tiles { length tiles.now ≡ self.now.matrix.rows }
+        requires marks { length marks.old ≡ length self.now.matrix.columns.now }
+        ensures { marks.new ≡ remarked_all (pattern_of self.now.matrix) tiles.now marks.old }
+    {
+        let Matrix {
+            rows,
+            starts,
+            columns,
+            ..
+        } = self.matrix;
+        for row in 0..rows as usize {
+            let (from, to) = (starts[row] as usize, starts[row + 1] as usize);
+            mark_row(tiles, row, &columns[from..to], &mut marks[from..to]);
+        }
     }
 }

@@ -1,2 +1,3 @@
 pub mod NumberedLines
 pub mod Pieces
+pub mod Sixteens

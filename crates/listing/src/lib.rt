@@ -3,4 +3,5 @@
 
 pub mod digits;
 pub mod headings;
+pub mod inputs;
 pub mod refusals;

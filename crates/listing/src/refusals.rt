@@ -20,12 +20,5 @@ pub fn refusal(heap: Global, fault: Fault) -> Result<String, AllocError>
 pub fn check_input(file: &[u8]) -> Result<(), Fault>
     ensures { result_err result ≡ input_fault file.now }
 {
-    if file.len() > MOST_BYTES {
-        return Err(Fault {
-            check: Check::FileLength,
-            place: 0,
-            layer: Layer::File,
-        });
-    }
-    Ok(())
+    Check::FileLength.refuse_if(file.len() > MOST_BYTES, 0, Layer::File)
 }

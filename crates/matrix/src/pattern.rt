@@ -34,7 +34,7 @@ impl<'a> Matrix<'a> {
 pub fn number_at(table: &[u32], i: usize) -> u32
     ensures { result ≡ at table.now i }
 {
-    if i < table.len() { table[i] } else { 0 }
+    table.get(i).copied().unwrap_or(0)
 }
 
 // The elements from `from` up to `to`, as far as there are any.
@@ -42,24 +42,14 @@ fn cut<X>(list: &[X], from: usize, to: usize) -> &[X]
     ensures { result.now ≡ between from to list.now }
 {
     let end = to.min(list.len());
-    if from < end {
-        &list[from..end]
-    } else {
-        &list[0..0]
-    }
+    list.get(from..end).unwrap_or_default()
 }
 
 // How often a row's own column stands in its part.
 fn own_entries(row: u32, part: &[u32]) -> usize
     ensures { result ≡ count_by (nat_eq row) part.now }
 {
-    let mut count = 0;
-    for column in part {
-        if *column == row {
-            count += 1;
-        }
-    }
-    count
+    part.iter().filter(|column| **column == row).count()
 }
 
 impl Matrix<'_> {
@@ -75,13 +65,7 @@ impl Matrix<'_> {
     pub fn stores(&self, v: u32, w: u32) -> bool
         ensures { result ≡ stores (pattern_of self.now) v w }
     {
-        let part = self.row(self.columns, v);
-        for column in part {
-            if *column == w {
-                return true;
-            }
-        }
-        false
+        self.row(self.columns, v).contains(&w)
     }
 
     pub fn linked(&self, v: u32, w: u32) -> bool
@@ -99,31 +83,20 @@ impl Matrix<'_> {
     }
 
     fn is_bad_start(&self, i: usize) -> bool
-        requires { i < length self.now.starts.now }
         ensures { result ≡ bad_start (pattern_of self.now) i }
     {
-        let start = self.starts[i];
-        if i == 0 {
-            if start != 0 {
-                return true;
-            }
-        } else if start < self.starts[i - 1] {
-            return true;
-        }
-        i == self.rows as usize && start != self.entries
+        let start = number_at(self.starts, i);
+        let before = number_at(self.starts, i.saturating_sub(1));
+        (i == 0 && start != 0)
+            || start < before
+            || (i == self.rows as usize && start != self.entries)
     }
 
     pub fn check_row_starts(&self, layer: Layer) -> Result<(), Fault>
         ensures { result_err result ≡ starts_fault layer (pattern_of self.now) }
     {
         for i in 0..self.starts.len() {
-            if self.is_bad_start(i) {
-                return Err(Fault {
-                    check: Check::RowStart,
-                    place: i,
-                    layer,
-                });
-            }
+            Check::RowStart.refuse_if(self.is_bad_start(i), i, layer)?;
         }
         Ok(())
     }
@@ -132,13 +105,7 @@ impl Matrix<'_> {
         ensures { result_err result ≡ columns_fault layer (pattern_of self.now) }
     {
         for (e, column) in self.columns.iter().enumerate() {
-            if *column >= self.rows {
-                return Err(Fault {
-                    check: Check::Column,
-                    place: e,
-                    layer,
-                });
-            }
+            Check::Column.refuse_if(*column >= self.rows, e, layer)?;
         }
         Ok(())
     }
@@ -147,13 +114,8 @@ impl Matrix<'_> {
         ensures { result_err result ≡ rows_fault layer (pattern_of self.now) }
     {
         for row in 0..self.rows {
-            if own_entries(row, self.row(self.columns, row)) != 1 {
-                return Err(Fault {
-                    check: Check::Row,
-                    place: row as usize,
-                    layer,
-                });
-            }
+            let own = own_entries(row, self.row(self.columns, row));
+            Check::Row.refuse_if(own != 1, row as usize, layer)?;
         }
         Ok(())
     }

@@ -64,14 +64,7 @@ impl Size {
         ensures { result_err result ≡ size_fault layer self }
     {
         let value = self.value();
-        if value < 1 || self.limit() < value {
-            let place = self.place();
-            return Err(Fault {
-                check: Check::Size,
-                place,
-                layer,
-            });
-        }
-        Ok(())
+        let bad = value < 1 || self.limit() < value;
+        Check::Size.refuse_if(bad, self.place(), layer)
     }
 }

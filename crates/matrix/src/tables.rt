@@ -40,14 +40,6 @@ impl Table {
     pub fn check_length(self, length: usize, wanted: usize, layer: Layer) -> Result<(), Fault>
         ensures { result_err result ≡ length_fault layer self length wanted }
     {
-        if length != wanted {
-            let place = self.number() as usize;
-            return Err(Fault {
-                check: Check::Length,
-                place,
-                layer,
-            });
-        }
-        Ok(())
+        Check::Length.refuse_if(length != wanted, self.number() as usize, layer)
     }
 }

@@ -1,31 +1,25 @@
 -- Row elements carried one after the other, there and back. Assumes nothing.
-use Rattle.std.proofs.Common.{◌≡◌, ℕ, ◌+◌, ◌*◌, ◌<◌, ◌≤◌, List, [], ◌∷◌, ◌++◌, map, length, get_or, take, set, sym, refl, ap, ◌∙◌, ap₂, arith}
+use Rattle.std.proofs.Common.{◌≡◌, ℕ, ◌+◌, ◌*◌, ◌<◌, ◌≤◌, List, [], ◌∷◌, ◌++◌, map, length, get_or, sym, refl, ap, ◌∙◌, ap₂, arith}
 use Rattle.std.specs.List.{between, flat_map}
 use Rattle.std.proofs.lemmas.List.FromFn.{length-range_with_len, get_or-range_with_len}
 use Rattle.std.proofs.lemmas.List.Edits.{between_none, between_more, length-between, get_or-between}
-use Rattle.std.proofs.lemmas.List.{take_more_set}
+use Rattle.std.proofs.lemmas.List.Concat.{length-flat_map}
+use Rattle.std.proofs.lemmas.List.Folds.{flat_map-map}
 use Rattle.checks.specs.Lists.{at, upto, totals}
 use Rattle.numbering.specs.Order.{carried_rows, remapped_tiles}
 use Rattle.numbering.specs.Laws.{Numbering, TilesMoved, RowsComeBack}
 use Rattle.numbering.proofs.Tallies.{total_same, total_const, totals_at, sum_all, next_sweep}
 use Rattle.numbering.proofs.Numbered.{turned, renumbered, numbering_passed}
-use Rattle.numbering.proofs.Stretches.{joined_more, joined_same, joined_map, joined_stretches, length_joined, between_all, stretch_at}
+use Rattle.numbering.proofs.Stretches.{joined_same, joined_stretches, between_all, stretch_at}
 
 module _ {X : Type 0} (xs : List X) where
   pub between_one : (v : ℕ) (d : X) → v < length xs → between v (v + 1) xs ≡ get_or xs v d ∷ []
   between_one v d l = between_more xs v v d (omega arith) l ∙ ap (λ ys. ys ++ get_or xs v d ∷ []) (between_none xs v)
 
-  -- one row more
-  pub rows_more : (rows : List ℕ) (ys : List X) (i : ℕ) (x : X) → i < length rows → i < length ys → at rows i < length xs → x ≡ get_or xs (at rows i) x → take i ys ≡ carried_rows (take i rows) xs
-      → take (i + 1) (set ys i x) ≡ carried_rows (take (i + 1) rows) xs
-  rows_more rows ys i x l m h e inv =
-      take_more_set ys i x m ∙ ap (λ zs. zs ++ x ∷ []) inv ∙ ap (λ zs. carried_rows (take i rows) xs ++ zs) (ap (λ y. y ∷ []) e ∙ sym (between_one (at rows i) x h))
-      ∙ sym (joined_more (λ v. between v (v + 1) xs) rows i 0 l)
-
 -- parts of one length n, one after the other
 module _ {Y : Type 0} (f : ℕ → List Y) (n : ℕ) (xs : List ℕ) (level : (k : ℕ) → k < length xs → length (f (at xs k)) ≡ n) where
   pub length_level : length (flat_map f xs) ≡ length xs * n
-  length_level = length_joined f xs ∙ sum_all (λ x. length (f x)) xs (length xs) refl ∙ total_same _ (λ _. n) (length xs) level ∙ total_const (length xs) n
+  length_level = length-flat_map f xs ∙ sum_all (λ x. length (f x)) xs (length xs) refl ∙ total_same _ (λ _. n) (length xs) level ∙ total_const (length xs) n
 
   pub level_at : (i : ℕ) → i < length xs → between (i * n) (i * n + n) (flat_map f xs) ≡ f (at xs i)
   level_at i l =
@@ -56,7 +50,7 @@ module _ {X : Type 0} {r : ℕ} {rank row : List ℕ} (num : Numbering r rank ro
   rows_back =
       let z : 0 + r ≡ r = omega arith in
       joined_same (λ i. between i (i + 1) (carried_rows row xs)) (λ i. between (at row i) (at row i + 1) xs) rank (λ v l. carried_row (at rank v) (num.below v (omega (arith, num.ranked))))
-      ∙ sym (joined_map (λ v. between v (v + 1) xs) (at row) rank) ∙ ap (flat_map (λ v. between v (v + 1) xs)) (renumbered num)
+      ∙ sym (flat_map-map (λ v. between v (v + 1) xs) (at row) rank) ∙ ap (flat_map (λ v. between v (v + 1) xs)) (renumbered num)
       ∙ joined_stretches (λ v. v) xs 0 r (λ k p q. omega arith) ∙ ap (λ n. between 0 n xs) z ∙ between_all xs r long
 
 pub rows_come_back : (X : Type 0) → RowsComeBack X

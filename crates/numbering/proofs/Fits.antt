@@ -4,6 +4,8 @@ use lib.ListN.{length-map}
 use Rattle.std.specs.List.{between, flat_map}
 use Rattle.std.proofs.lemmas.List.Edits.{length-between}
 use Rattle.std.proofs.lemmas.List.{ext_get_or}
+use Rattle.std.proofs.lemmas.List.Concat.{length-flat_map}
+use Rattle.std.proofs.lemmas.List.Folds.{flat_map-map}
 use Rattle.std.proofs.lemmas.Bool.{cases_eq, eqb-true, eq-eqb, ne_eqb, ltb-false, le-ltb, not-false, not_from_true, or_parts, or_from, and_cases, and_left, and_right}
 use Rattle.checks.specs.Lists.{at, upto}
 use Rattle.checks.specs.declared.Check.TheVariants.{RowStart}
@@ -14,7 +16,7 @@ use Rattle.numbering.specs.Order.{carried_entries, row_length, remapped}
 use Rattle.numbering.proofs.Tallies.{total, total_same, total_rises, totals_at, length_totals, sum_all}
 use Rattle.numbering.specs.Laws.{Numbering}
 use Rattle.numbering.proofs.Numbered.{turned, renumbered, total_renumbered}
-use Rattle.numbering.proofs.Stretches.{joined_map, joined_same, joined_stretches, length_joined, between_all, stretch_at}
+use Rattle.numbering.proofs.Stretches.{joined_same, joined_stretches, between_all, stretch_at}
 
 -- the row starts rise from 0 to E
 pub record Fit (m : Pattern) : Type 0 where
@@ -108,7 +110,7 @@ module _ (m : Pattern) (fit : Fit m) (rank row : List ℕ) (num : Numbering m.ro
   module _ {X : Type 0} (xs : List X) (long : length xs ≡ m.entries) where
     pub length_carried : length (carried_entries m row xs) ≡ m.entries
     length_carried =
-        length_joined (row_part m xs) row ∙ sum_all (λ v. length (row_part m xs v)) row m.rows num.placed
+        length-flat_map (row_part m xs) row ∙ sum_all (λ v. length (row_part m xs v)) row m.rows num.placed
         ∙ total_same _ (λ i. row_length m (at row i)) m.rows (λ i l. length_row_part m fit xs long (at row i) (num.inside i l))
         ∙ total_renumbered num (row_length m) ∙ sym (start_total m fit m.rows (omega arith)) ∙ fit.last
 
@@ -120,7 +122,7 @@ module _ (m : Pattern) (fit : Fit m) (rank row : List ℕ) (num : Numbering m.ro
     pub carried_back : carried_entries (remapped m rank row) rank (carried_entries m row xs) ≡ xs
     carried_back =
         joined_same _ (λ i. row_part m xs (at row i)) rank (λ v l. new_row_part (at rank v) (num.below v (omega (arith, num.ranked))))
-        ∙ sym (joined_map (row_part m xs) (at row) rank)
+        ∙ sym (flat_map-map (row_part m xs) (at row) rank)
         ∙ ap (flat_map (row_part m xs)) (renumbered num)
         ∙ carried_whole m fit xs long
 
@@ -139,6 +141,3 @@ module _ (m : Pattern) (fit : Fit m) (rank row : List ℕ) (num : Numbering m.ro
   carried_again ys long =
       let again = carried_entries (remapped m rank row) rank ys in
       sym (ap (λ s. flat_map (λ v. between (at s v) (at s (v + 1)) again) row) (starts_back m fit rank row num)) ∙ carried_back (remapped m rank row) (new_fit m fit rank row num) row rank (turned num) ys long
-
-  pub length_carried_back : {X : Type 0} (ys : List X) → length ys ≡ m.entries → length (carried_entries (remapped m rank row) rank ys) ≡ m.entries
-  length_carried_back ys long = length_carried (remapped m rank row) (new_fit m fit rank row num) row rank (turned num) ys long

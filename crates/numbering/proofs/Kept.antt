@@ -1,5 +1,5 @@
 -- Remapping keeps a matrix acceptable and its links. Assumes nothing.
-use Rattle.std.proofs.Common.{◌≡◌, ℕ, ◌+◌, ◌-◌, ◌<◌, Bool, cond, not, ◌&&◌, ◌||◌, eqb, List, [], ◌∷◌, map, length, take, drop, Some, None, count_by, Option, sym, refl, ap, ◌∙◌, ap₂, inl, inr, arith}
+use Rattle.std.proofs.Common.{◌≡◌, ℕ, ◌+◌, ◌-◌, ◌<◌, Bool, cond, not, ◌&&◌, ◌||◌, eqb, List, [], ◌∷◌, map, length, take, drop, None, count_by, sym, refl, ap, ◌∙◌, ap₂, inl, inr, arith}
 use lib.ListN.{length-map}
 use Rattle.std.specs.List.{AllByRecursion as All}
 use Rattle.std.proofs.ByRecursion.{All-weaker}
@@ -7,23 +7,16 @@ use Rattle.std.proofs.lemmas.List.{take-map, drop-map, get_or-map}
 use Rattle.std.proofs.lemmas.List.Sums.{sum_by-cons}
 use Rattle.std.proofs.lemmas.Bool.{cases_eq, eq-eqb, ne_eqb, lt-ltb, not_from_true}
 use Rattle.checks.specs.Lists.{at, some}
-use Rattle.checks.specs.Verdicts.{first_fault}
 use Rattle.checks.specs.declared.Check.TheVariants.{Column, Row}
 use Rattle.checks.specs.declared.Layer.{Layer}
-use Rattle.checks.specs.declared.Fault.{Fault}
 use Rattle.checks.proofs.Firsts.{lowest_none, lowest_passed}
 use Rattle.matrix.specs.Patterns.{Pattern, row_part, stores, linked, bad_column, bad_row, starts_fault, columns_fault, rows_fault, matrix_fault}
 use Rattle.numbering.specs.Order.{carried_entries, remapped}
 use Rattle.numbering.specs.Laws.{Numbering, Checked, RemappedAccepted, LinksKept, EntriesComeBack}
-use Rattle.checks.proofs.Refusals.{all_passed}
+use Rattle.checks.proofs.Refusals.{all_passed, all_none}
 use Rattle.numbering.proofs.Numbered.{numbering_passed}
 use Rattle.numbering.proofs.Fits.{Fit, fit_passed, fit_starts, new_fit, length_carried, new_row_part, carried_back, carried_again}
 use Rattle.numbering.proofs.Remappable.{columns_below, all_row_part, new_columns_below}
-
-none_first : (vs : List (Option Fault)) → All (λ v. v ≡ None) vs → first_fault vs ≡ None
-none_first [] h = refl
-none_first (None ∷ vs) h = none_first vs h.1
-none_first (Some f ∷ vs) h = h.0
 
 module _ {X : Type 0} (f : X → ℕ) (p : ℕ → Bool) (q : X → Bool) where
   some_map : (xs : List X) → All (λ x. p (f x) ≡ q x) xs → some p (map f xs) ≡ some q xs
@@ -80,7 +73,7 @@ module _ (layer : Layer) (m : Pattern) (rank row : List ℕ) (ok : Checked layer
   accepted = (
     (new_fit m fit rank row num).started,
     long,
-    none_first (starts_fault layer (remapped m rank row) ∷ columns_fault layer (remapped m rank row) ∷ rows_fault layer (remapped m rank row) ∷ [])
+    all_none (starts_fault layer (remapped m rank row) ∷ columns_fault layer (remapped m rank row) ∷ rows_fault layer (remapped m rank row) ∷ [])
         (fit_starts layer (remapped m rank row) (new_fit m fit rank row num), (columns, (rows, tt))),
   )
     where

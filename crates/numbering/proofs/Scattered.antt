@@ -1,10 +1,11 @@
 -- Parts written back into their rows, one rank after the other. Assumes nothing.
-use Rattle.std.proofs.Common.{◌≡◌, ℕ, suc, ◌+◌, ◌-◌, ◌<◌, ◌≤◌, List, ◌++◌, length, take, drop, sym, ap, ◌∙◌, subst, ap₂, ⊎_elim, arith, below_more}
+use Rattle.std.proofs.Common.{◌≡◌, ℕ, suc, ◌+◌, ◌-◌, ◌<◌, ◌≤◌, List, ◌++◌, length, take, drop, sym, ap, ◌∙◌, subst, ap₂, ⊎_elim, arith, below_more, length-drop}
 use lib.Seq.{paste}
 use Rattle.std.specs.List.{between, flat_map}
-use Rattle.std.proofs.lemmas.List.Edits.{take-paste, drop-paste, length-between}
+use Rattle.std.proofs.lemmas.List.Edits.{take-paste, drop-paste}
 use Rattle.std.proofs.lemmas.List.{take_all, take-take, take-append-le, drop_at, drop-drop, length-take-le}
 use Rattle.std.proofs.lemmas.Slice.{between_is}
+use Rattle.std.proofs.lemmas.List.Folds.{flat_map-map}
 use Rattle.std.proofs.lemmas.Bool.{cases_order}
 use Rattle.checks.specs.Lists.{at}
 use Rattle.matrix.specs.Patterns.{Pattern, row_part}
@@ -12,7 +13,7 @@ use Rattle.numbering.specs.Order.{carried_entries, row_length, remapped}
 use Rattle.numbering.proofs.Tallies.{total}
 use Rattle.numbering.specs.Laws.{Numbering}
 use Rattle.numbering.proofs.Numbered.{turned, renumbered}
-use Rattle.numbering.proofs.Stretches.{joined_map, joined_same}
+use Rattle.numbering.proofs.Stretches.{joined_same}
 use Rattle.numbering.proofs.Fits.{Fit, start_rises, start_most, new_start, new_fit, carried_whole, carried_back}
 
 module _ {X : Type 0} (xs part : List X) (p n : ℕ) (room : p + n ≤ length xs) (long : n ≡ length part) where
@@ -44,25 +45,28 @@ module _ (m : Pattern) (fit : Fit m) (rank row : List ℕ) (num : Numbering m.ro
   pub next_start : (i : ℕ) → i < m.rows → at (remapped m rank row).starts (i + 1) ≡ at (remapped m rank row).starts i + row_length m (at row i)
   next_start i l = let e : i + 1 ≡ suc i = omega arith in new_start m fit rank row num (i + 1) (omega arith) ∙ ap (total (λ k. row_length m (at row k))) e ∙ ap (λ x. x + row_length m (at row i)) (sym (new_start m fit rank row num i (omega arith)))
 
-  pub holds_more : (to : List X) (i place end : ℕ) → i < m.rows → length to ≡ m.entries → place ≡ at (remapped m rank row).starts i → end ≡ place + row_length m (at row i) → Holds to i
-      → Holds (paste to (at m.starts (at row i)) (between place end from) (end - place)) (i + 1)
-  holds_more to i place end l long begins ends held = below_more _ i
+  pub holds_more : (to rest : List X) (i : ℕ) → i < m.rows → length to ≡ m.entries → rest ≡ drop (at (remapped m rank row).starts i) from → Holds to i
+      → Holds (paste to (at m.starts (at row i)) (take (row_length m (at row i)) rest) (row_length m (at row i))) (i + 1)
+  holds_more to rest i l long begins held = below_more _ i
       (λ k h. ⊎_elim
       (λ e. absurd (omega (arith, sym (num.back k (omega arith)) ∙ ap (at rank) e ∙ num.back i l)))
       (⊎_elim
       (λ below. between_before to part start size fits whole (at m.starts (at row k)) (at m.starts (at row k + 1)) (rising (at row k) (at row i) (num.inside i l) below) ∙ held k h)
       (λ above. between_after to part start size fits whole (at m.starts (at row k)) (at m.starts (at row k + 1)) (omega (arith, rising (at row i) (at row k) (num.inside k (omega arith)) above, span)) ∙ held k h))
       (cases_order (at row k) (at row i)))
-      (ap (λ e. between start e (paste to start part size)) (sym (omega (arith, span))) ∙ between_written to part start size fits whole ∙ ap₂ (λ a b. between a b from) begins (ends ∙ ap (λ x. x + row_length m (at row i)) begins ∙ sym (next_start i l)))
+      (ap (λ e. between start e (paste to start part size)) (sym (omega (arith, span))) ∙ between_written to part start size fits whole ∙ ap₂ take long_part begins)
     where
       start : ℕ
       start = at m.starts (at row i)
 
       size : ℕ
-      size = end - place
+      size = row_length m (at row i)
 
       part : List X
-      part = between place end from
+      part = take size rest
+
+      long_part : size ≡ at (remapped m rank row).starts (i + 1) - at (remapped m rank row).starts i
+      long_part = omega (arith, next_start i l)
 
       rising : (u v : ℕ) → v < m.rows → u < v → at m.starts (u + 1) ≤ at m.starts v
       rising u v h b = let e : u + 1 + (v - (u + 1)) ≡ v = omega arith in subst (λ k. at m.starts (u + 1) ≤ at m.starts k) e (start_rises m fit (u + 1) (v - (u + 1)) (omega arith))
@@ -74,13 +78,13 @@ module _ (m : Pattern) (fit : Fit m) (rank row : List ℕ) (num : Numbering m.ro
       fits = omega (arith, span, start_most m fit (at row i + 1) (omega (arith, num.inside i l)))
 
       whole : size ≡ length part
-      whole = sym (length-between from place end (omega (arith, next_start i l, start_most (remapped m rank row) (new_fit m fit rank row num) (i + 1) (omega arith))))
+      whole = sym (length-take-le size rest (omega (arith, ap length begins, length-drop (at (remapped m rank row).starts i) from, next_start i l, start_most (remapped m rank row) (new_fit m fit rank row num) (i + 1) (omega arith))))
 
   pub holds_all : (to : List X) → length to ≡ m.entries → Holds to m.rows → to ≡ carried_entries (remapped m rank row) rank from
   holds_all to long held =
       sym (carried_back m fit rank row num to long)
       ∙ ap (carried_entries (remapped m rank row) rank)
       (joined_same (row_part m to) (λ v. row_part (remapped m rank row) from (at rank v)) row (λ i l. let h : i < m.rows = omega (arith, num.placed) in held i h ∙ ap (row_part (remapped m rank row) from) (sym (num.back i h)))
-      ∙ sym (joined_map (row_part (remapped m rank row) from) (at rank) row)
+      ∙ sym (flat_map-map (row_part (remapped m rank row) from) (at rank) row)
       ∙ ap (flat_map (row_part (remapped m rank row) from)) (renumbered (turned num))
       ∙ carried_whole (remapped m rank row) (new_fit m fit rank row num) from full)

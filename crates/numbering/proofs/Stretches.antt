@@ -1,55 +1,37 @@
 -- A list as its stretches one after the other. Assumes nothing.
-use Rattle.std.proofs.Common.{◌≡◌, ℕ, zero, suc, ◌+◌, ◌-◌, ◌<◌, ◌≤◌, List, [], ◌∷◌, ◌++◌, map, length, get_or, take, drop, sum_by, sym, refl, ap, ◌∙◌, subst, ap₂, append_assoc, append-nil, arith, length-append}
+use Rattle.std.proofs.Common.{◌≡◌, ℕ, zero, suc, ◌+◌, ◌-◌, ◌<◌, ◌≤◌, List, [], ◌∷◌, ◌++◌, map, length, get_or, take, drop, sym, refl, ap, ◌∙◌, subst, ap₂, append-nil, arith, length-append}
 use lib.Seq.{paste}
 use Rattle.std.specs.List.{between, range_with_len, flat_map}
-use Rattle.std.proofs.lemmas.List.FromFn.{map-range_with_len_more}
-use Rattle.std.proofs.lemmas.List.{map-id, take-append-drop, take_more, drop_more, drop_at, take_at, take_all, drop-drop}
+use Rattle.std.proofs.lemmas.List.{take-append-drop, take_more, drop_more, drop_at, take_at, take_all, drop-drop}
 use Rattle.std.proofs.lemmas.List.Edits.{between_none, take-paste}
-use Rattle.std.proofs.lemmas.List.Sums.{sum_by-cons}
-use Rattle.checks.specs.Lists.{at, upto, totals}
+use Rattle.std.proofs.lemmas.List.Concat.{length-flat_map}
+use Rattle.std.proofs.lemmas.List.Folds.{length-flat_map-take}
+use Rattle.std.proofs.lemmas.Grind.{flat_map-append}
+use Rattle.checks.specs.Lists.{at, totals}
 use Rattle.numbering.proofs.Tallies.{total, total_same, totals_at, sum_total}
 
 module _ {X Y : Type 0} (f : X → List Y) where
-  pub joined_append : (xs ys : List X) → flat_map f (xs ++ ys) ≡ flat_map f xs ++ flat_map f ys
-  joined_append [] ys = refl
-  joined_append (x ∷ xs) ys = ap (λ zs. f x ++ zs) (joined_append xs ys) ∙ sym (append_assoc (f x) (flat_map f xs) (flat_map f ys))
-
   pub joined_push : (xs : List X) (x : X) → flat_map f (xs ++ x ∷ []) ≡ flat_map f xs ++ f x
-  joined_push xs x = joined_append xs (x ∷ []) ∙ ap (λ zs. flat_map f xs ++ zs) (append-nil (f x))
+  joined_push xs x = flat_map-append f xs (x ∷ []) ∙ ap (λ zs. flat_map f xs ++ zs) (append-nil (f x))
 
   pub joined_more : (xs : List X) (i : ℕ) (d : X) → i < length xs → flat_map f (take (i + 1) xs) ≡ flat_map f (take i xs) ++ f (get_or xs i d)
   joined_more xs i d l = ap (flat_map f) (take_more xs i d l) ∙ joined_push (take i xs) (get_or xs i d)
 
-  pub length_joined : (xs : List X) → length (flat_map f xs) ≡ sum_by (λ x. length (f x)) xs
-  length_joined [] = refl
-  length_joined (x ∷ xs) = length-append (f x) (flat_map f xs) ∙ ap (λ n. length (f x) + n) (length_joined xs) ∙ sym (sum_by-cons (λ x. length (f x)) x xs)
-
   -- a part of the list, before, at and after one of its elements
   pub joined_cut : (xs : List X) (i : ℕ) (d : X) → i < length xs → flat_map f xs ≡ flat_map f (take i xs) ++ (f (get_or xs i d) ++ flat_map f (drop (i + 1) xs))
   joined_cut xs i d l =
-      ap (flat_map f) (sym (take-append-drop i xs)) ∙ joined_append (take i xs) (drop i xs) ∙ ap (λ zs. flat_map f (take i xs) ++ flat_map f zs) (drop_more xs i d l)
-
-  pub joined_room : (xs : List X) (i : ℕ) (d : X) → i < length xs → length (flat_map f (take i xs)) + length (f (get_or xs i d)) ≤ length (flat_map f xs)
-  joined_room xs i d l =
-      omega (arith, ap length (joined_cut xs i d l), length-append (flat_map f (take i xs)) (f (get_or xs i d) ++ flat_map f (drop (i + 1) xs)), length-append (f (get_or xs i d)) (flat_map f (drop (i + 1) xs)))
+      ap (flat_map f) (sym (take-append-drop i xs)) ∙ flat_map-append f (take i xs) (drop i xs) ∙ ap (λ zs. flat_map f (take i xs) ++ flat_map f zs) (drop_more xs i d l)
 
   -- a list that is written part by part
   pub parts_more : (xs : List X) (ys : List Y) (i : ℕ) (d : X) (place : ℕ) → i < length xs → place ≡ length (flat_map f (take i xs)) → take place ys ≡ flat_map f (take i xs) → length (flat_map f xs) ≡ length ys
       → (part : List Y) → part ≡ f (get_or xs i d) → (place + length part ≡ length (flat_map f (take (i + 1) xs))) × (take (place + length part) (paste ys place part (length part)) ≡ flat_map f (take (i + 1) xs))
   parts_more xs ys i d place l e inv long part is =
       let more = joined_more xs i d l in
-      let room = joined_room xs i d l in
+      let room = length-flat_map-take f xs i d l in
       let same : length part ≡ length (f (get_or xs i d)) = ap length is in (
         omega (arith, ap length more, length-append (flat_map f (take i xs)) (f (get_or xs i d))),
         take-paste ys place part (length part) (omega arith) (omega arith) ∙ ap₂ ◌++◌ inv (take_all (length part) part (omega arith) ∙ is) ∙ sym more,
       )
-
-pub upto_more : (n : ℕ) → upto (n + 1) ≡ upto n ++ n ∷ []
-upto_more n = sym (map-id (upto (n + 1))) ∙ map-range_with_len_more (λ x. x) 0 n n (omega arith) ∙ ap (λ xs. xs ++ n ∷ []) (map-id (upto n))
-
-pub joined_map : {X Y Z : Type 0} (f : Y → List Z) (g : X → Y) (xs : List X) → flat_map f (map g xs) ≡ flat_map (λ x. f (g x)) xs
-joined_map f g [] = refl
-joined_map f g (x ∷ xs) = ap (λ zs. f (g x) ++ zs) (joined_map f g xs)
 
 pub joined_same : {Y : Type 0} (f g : ℕ → List Y) (xs : List ℕ) → ((i : ℕ) → i < length xs → f (at xs i) ≡ g (at xs i)) → flat_map f xs ≡ flat_map g xs
 joined_same f g [] h = refl
@@ -97,7 +79,7 @@ module _ {Y : Type 0} where
       ∙ between_at (flat_map f (take i xs)) (f (at xs i)) (flat_map f (drop (i + 1) xs)) _ _ (sym low) (omega (arith, low, high, same i l, bump))
     where
       front : (i : ℕ) → i ≤ length xs → length (flat_map f (take i xs)) ≡ total (λ k. n (at xs k)) i
-      front i h = length_joined f (take i xs) ∙ sum_total (λ x. length (f x)) xs i h ∙ total_same _ _ i (λ k q. same k (omega arith))
+      front i h = length-flat_map f (take i xs) ∙ sum_total (λ x. length (f x)) xs i h ∙ total_same _ _ i (λ k q. same k (omega arith))
 
       low : at (totals 0 (map n xs)) i ≡ length (flat_map f (take i xs))
       low = totals_at n xs i (omega arith) ∙ sym (front i (omega arith))

@@ -1,8 +1,8 @@
 -- Sums over the numbers below n. Assumes nothing.
-use Rattle.std.proofs.Common.{◌≡◌, ℕ, zero, suc, ◌+◌, ◌*◌, ◌<◌, ◌≤◌, cond, eqb, List, [], ◌∷◌, ◌++◌, map, length, take, sum_by, sum, sym, refl, ap, ◌∙◌, ap₂, inl, inr, arith}
+use Rattle.std.proofs.Common.{◌≡◌, ℕ, zero, suc, ◌+◌, ◌*◌, ◌<◌, ◌≤◌, cond, eqb, List, [], ◌∷◌, map, length, take, sum_by, sym, refl, ap, ◌∙◌, ap₂, inl, inr, arith}
 use Rattle.std.proofs.lemmas.Nat.{mul-le}
-use Rattle.std.proofs.lemmas.List.Sums.{sum_by-cons, sum_by_more, sum-map}
-use Rattle.std.proofs.lemmas.List.{take_all, map_more}
+use Rattle.std.proofs.lemmas.List.Sums.{sum_by-cons, sum_by_more}
+use Rattle.std.proofs.lemmas.List.{take_all}
 use Rattle.std.proofs.lemmas.Bool.{cases_eq, eq-eqb, ne_eqb, cond-true, cond-false}
 use Rattle.checks.specs.Lists.{at, totals}
 
@@ -62,6 +62,9 @@ totals_from a n [] (suc i) l = absurd (omega arith)
 totals_from a n (x ∷ xs) zero l = omega arith
 totals_from a n (x ∷ xs) (suc i) l = omega (arith, totals_from (a + n x) n xs i (omega arith), sum_by-cons n x (take i xs))
 
+pub totals_sum : (n : ℕ → ℕ) (xs : List ℕ) (i : ℕ) → i ≤ length xs → at (totals 0 (map n xs)) i ≡ sum_by n (take i xs)
+totals_sum n xs i l = omega (arith, totals_from 0 n xs i l)
+
 -- running totals, by their places
 pub totals_at : (n : ℕ → ℕ) (xs : List ℕ) (i : ℕ) → i ≤ length xs → at (totals 0 (map n xs)) i ≡ total (λ k. n (at xs k)) i
 totals_at n xs i l = omega (arith, totals_from 0 n xs i l, sum_total n xs i l)
@@ -69,15 +72,6 @@ totals_at n xs i l = omega (arith, totals_from 0 n xs i l, sum_total n xs i l)
 pub length_totals : (a : ℕ) (ns : List ℕ) → length (totals a ns) ≡ length ns + 1
 length_totals a [] = refl
 length_totals a (n ∷ ns) = omega (arith, length_totals (a + n) ns)
-
-totals_push : (a : ℕ) (ns : List ℕ) (n : ℕ) → totals a (ns ++ n ∷ []) ≡ totals a ns ++ (a + (sum ns + n)) ∷ []
-totals_push a [] n = ap (λ x. a ∷ x ∷ []) (omega arith)
-totals_push a (k ∷ ns) n = ap (λ xs. a ∷ xs) (totals_push (a + k) ns n ∙ ap (λ x. totals (a + k) ns ++ x ∷ []) (omega (arith, sum_by-cons (λ x. x) k ns)))
-
--- one running total more
-pub totals_more : (f : ℕ → ℕ) (xs : List ℕ) (i : ℕ) → i < length xs → totals 0 (map f (take (i + 1) xs)) ≡ totals 0 (map f (take i xs)) ++ sum_by f (take (i + 1) xs) ∷ []
-totals_more f xs i l =
-    ap (totals 0) (map_more f xs i 0 l) ∙ totals_push 0 (map f (take i xs)) (f (at xs i)) ∙ ap (λ x. totals 0 (map f (take i xs)) ++ x ∷ []) (omega (arith, sum-map f (take i xs), sum_by_more f xs i 0 l))
 
 pub next_sweep : (s n t : ℕ) → s < t → s * n + n ≤ t * n
 next_sweep s n t h = omega (arith, mul-le (suc s) n t n (omega arith) (omega arith))

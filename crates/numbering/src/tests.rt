@@ -1,5 +1,5 @@
 // Examples run: ordering with equal tile vectors and bytes up to 255, a refusal, remapping a path, and pairs carried both ways.
-use crate::carrying::{carry_entries, carry_entries_back, carry_rows, carry_rows_back};
+use crate::Numbering;
 use crate::ordering::order;
 use crate::remapping::remap;
 use checks::{Check, Fault, Layer};
@@ -42,7 +42,11 @@ fn refuses_before_it_writes(rt: HostRuntime) {
     assert_eq!(rt; ranks, [9]);
     assert_eq!(rt; rows_by_rank, [9]);
     assert_eq!(rt; spare, [9, 9]);
-    let refused = carry_rows(3, &[2, 0, 1], &[1, 0, 0], &[5, 6, 7], &mut [0; 3]);
+    let numbering = Numbering {
+        ranks: &[2, 0, 1],
+        rows_by_rank: &[1, 0, 0],
+    };
+    let refused = numbering.carry_rows(3, &[5, 6, 7], &mut [0; 3]);
     assert_eq!(rt;
         refused,
         Err(Fault {
@@ -61,6 +65,10 @@ fn remaps_a_path(rt: HostRuntime) -> Result<(), Fail> {
         starts: &[0, 2, 5, 7],
         columns: &[0, 1, 1, 0, 2, 2, 1],
     };
+    let numbering = Numbering {
+        ranks: &[2, 0, 1],
+        rows_by_rank: &[1, 2, 0],
+    };
     let mut starts = [9; 4];
     let mut columns = [9; 7];
     let mut tiles = [9; 6];
@@ -68,8 +76,7 @@ fn remaps_a_path(rt: HostRuntime) -> Result<(), Fail> {
         &matrix,
         2,
         &[0, 0, 0, 1, 0, 0],
-        &[2, 0, 1],
-        &[1, 2, 0],
+        &numbering,
         &mut starts,
         &mut columns,
         &mut tiles,
@@ -85,12 +92,26 @@ fn carries_pairs_both_ways(rt: HostRuntime) -> Result<(), Fail> {
     let pairs = [(1, 'a'), (2, 'b'), (3, 'c')];
     let mut there = [(0, ' '); 3];
     let mut back = [(0, ' '); 3];
-    carry_rows(3, &[2, 0, 1], &[1, 2, 0], &pairs, &mut there)?;
-    carry_rows_back(3, &[2, 0, 1], &[1, 2, 0], &there, &mut back)?;
+    let numbering = Numbering {
+        ranks: &[2, 0, 1],
+        rows_by_rank: &[1, 2, 0],
+    };
+    numbering.carry_rows(3, &pairs, &mut there)?;
+    numbering.carry_rows_back(3, &there, &mut back)?;
     assert_eq!(rt; there, [(2, 'b'), (3, 'c'), (1, 'a')]);
     assert_eq!(rt; back, pairs);
-    carry_entries(2, 3, &[0, 2, 3], &[1, 0], &[1, 0], &pairs, &mut there)?;
-    carry_entries_back(2, 3, &[0, 2, 3], &[1, 0], &[1, 0], &there, &mut back)?;
+    let matrix = Matrix {
+        rows: 2,
+        entries: 3,
+        starts: &[0, 2, 3],
+        columns: &[],
+    };
+    let numbering = Numbering {
+        ranks: &[1, 0],
+        rows_by_rank: &[1, 0],
+    };
+    numbering.carry_entries(&matrix, &pairs, &mut there)?;
+    numbering.carry_entries_back(&matrix, &there, &mut back)?;
     assert_eq!(rt; there, [(3, 'c'), (1, 'a'), (2, 'b')]);
     assert_eq!(rt; back, pairs);
     Ok(())

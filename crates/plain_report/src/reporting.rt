@@ -1,7 +1,8 @@
 // A case file swept plainly, and what is printed of it.
 ghost use Rattle.std.specs.Prelude.{◌≡◌, ◌*◌, IfOk, string_bytes};
 ghost use Rattle.arithmetic.specs.Lent.{equations_of};
-ghost use Rattle.plain_report.specs.Reports.{tables_of, system_text, swept_text, kind_text_of, file_text_of, reported};
+ghost use Rattle.case_file.specs.Contents.{contents_of};
+ghost use Rattle.plain_report.specs.Reports.{system_text, swept_text, kind_text_of, reported};
 
 use crate::rows::plain_listing;
 use arithmetic::Arithmetic;
@@ -15,20 +16,6 @@ use case_file::reading::Case;
 use listing::refusals::{check_input, refusal};
 use matrix::pattern::Matrix;
 use std::alloc::{AllocError, Global};
-
-// A case's tables as a system.
-fn system<'a, F>(
-    case: &Case<'_>,
-    starts: &'a [u32],
-    columns: &'a [u32],
-    coefficients: &'a [F],
-    right_hand_side: &'a [F],
-) -> System<'a, F, F>
-    ensures { equations_of result ≡ record { pattern = record { rows = case.now.rows; entries = case.now.entries; starts = starts.now; columns = columns.now }; coefficients = coefficients.now; rhs = right_hand_side.now } }
-{
-    let matrix = Matrix::new(case.rows, case.entries, starts, columns);
-    System::new(matrix, coefficients, right_hand_side)
-}
 
 // The refusal's line, or the listing of the swept vector.
 fn swept_listing<F: Filed + Copy, K: Arithmetic<Coefficient = F, Value = F>>(
@@ -52,44 +39,25 @@ fn sweep_text<F: Filed + Copy, K: Arithmetic<Coefficient = F, Value = F>>(
     arithmetic: &K,
     case: &Case<'_>,
 ) -> Result<String, AllocError>
-    ensures { IfOk result (λ text. string_bytes text ≡ swept_text (K.means arithmetic.now) F.Filed.width F.Filed.filed F.Filed.printed (tables_of case.now)) }
+    ensures { IfOk result (λ text. string_bytes text ≡ swept_text (K.means arithmetic.now) F.Filed.width F.Filed.filed F.Filed.printed (contents_of case.now)) }
 {
     let starts = case.starts.elements::<u32>(heap)?;
     let columns = case.columns.elements::<u32>(heap)?;
     let coefficients = case.coefficients.elements::<F>(heap)?;
     let right_hand_side = case.right_hand_side.elements::<F>(heap)?;
     let mut vector = case.vector.elements::<F>(heap)?;
-    let system = system(
-        case,
-        starts.as_slice(),
-        columns.as_slice(),
-        coefficients.as_slice(),
-        right_hand_side.as_slice(),
-    );
-    swept_listing(
-        heap,
-        arithmetic,
-        &system,
-        case.sweeps,
-        vector.as_mut_slice(),
-    )
+    let matrix = Matrix::new(case.rows, case.entries, &starts, &columns);
+    let system = System::new(matrix, &coefficients, &right_hand_side);
+    swept_listing(heap, arithmetic, &system, case.sweeps, &mut vector)
 }
 
 fn case_text(heap: Global, case: &Case<'_>) -> Result<String, AllocError>
-    ensures { IfOk result (λ text. string_bytes text ≡ kind_text_of case.now.kind (tables_of case.now)) }
+    ensures { IfOk result (λ text. string_bytes text ≡ kind_text_of case.now.kind (contents_of case.now)) }
 {
+    // Kept: a closure cannot be generic over the arithmetic, so each kind's call is written out.
     match case.kind {
         Kind::Doubles => sweep_text(heap, &Doubles, case),
         Kind::Minutes => sweep_text(heap, &Minutes, case),
-    }
-}
-
-fn file_text(heap: Global, file: &[u8]) -> Result<String, AllocError>
-    ensures { IfOk result (λ text. string_bytes text ≡ file_text_of file.now) }
-{
-    match Case::read(file) {
-        Ok(case) => case_text(heap, &case),
-        Err(fault) => refusal(heap, fault),
     }
 }
 
@@ -97,8 +65,8 @@ fn file_text(heap: Global, file: &[u8]) -> Result<String, AllocError>
 pub fn report(heap: Global, file: &[u8]) -> Result<String, AllocError>
     ensures { IfOk result (λ text. string_bytes text ≡ reported file.now) }
 {
-    match check_input(file) {
-        Ok(()) => file_text(heap, file),
+    match check_input(file).and_then(|()| Case::read(file)) {
+        Ok(case) => case_text(heap, &case),
         Err(fault) => refusal(heap, fault),
     }
 }

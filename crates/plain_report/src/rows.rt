@@ -1,24 +1,19 @@
 // The lines of swept values.
 ghost use Rattle.std.specs.Prelude.{◌≡◌, ◌*◌, ◌++◌, map, IfOk, string_bytes, OnOk};
-ghost use Rattle.plain_report.specs.Lines.{row_line, rows_text, plain_text};
+ghost use Rattle.plain_report.specs.Lines.{rows_text, plain_text};
 
 use case_file::filed::Filed;
 use listing::digits::Hexadecimal;
 use std::alloc::{AllocError, Global};
 
-fn push_row(text: &mut String, row: usize, bits: Hexadecimal) -> Result<(), AllocError>
-    ensures { OnOk result (string_bytes text.new ≡ string_bytes text.old ++ row_line bits.digits row bits.number) }
-{
-    writeln!(text, "row {row} value {bits}")
-}
-
 fn push_rows<K: Filed + Copy>(text: &mut String, values: &[K]) -> Result<(), AllocError>
-    ensures { OnOk result (string_bytes text.new ≡ string_bytes text.old ++ rows_text (2 * K.Filed.width) 0 (map K.Filed.printed values.now)) }
+    ensures { OnOk result (string_bytes text.new ≡ string_bytes text.old ++ rows_text (2 * K.Filed.width) (map K.Filed.printed values.now)) }
 {
     let digits = 2 * K::width() as u8;
     for (row, value) in values.iter().enumerate() {
         let number = value.bits();
-        push_row(text, row, Hexadecimal { number, digits })?;
+        let bits = Hexadecimal { number, digits };
+        writeln!(text, "row {row} value {bits}")?;
     }
     Ok(())
 }

@@ -1,6 +1,7 @@
 // Case files at the edges of what is read.
 use crate::is_fault;
 use case_file::reading::Case;
+use checks::Layer;
 use plain_report::reporting::report;
 use std::alloc::{AllocError, Global};
 use std::test::Fail;
@@ -9,7 +10,7 @@ use std::test::Fail;
 const HEADER: [u8; 17] = [0, 0, 0, 13, 1, 1, 1, 1, 1, 0, 0, 0, 1, 0, 0, 0, 1];
 
 fn refused(bytes: &[u8], number: u8, place: usize) -> bool {
-    is_fault(Case::read(bytes).err(), number, place)
+    is_fault(Case::read(bytes).err(), number, place, Layer::File)
 }
 
 fn with(at: usize, byte: u8) -> [u8; 17] {
@@ -77,9 +78,7 @@ fn zeros(heap: Global, size: usize) -> Result<Vec<u8>, AllocError> {
     let header: [u8; 17] = [0, 0, 63, 252, 1, 2, 1, 1, 1, 0, 0, 0, 7, 0, 0, 7, 242];
     let mut bytes = Vec::new(heap);
     bytes.extend_from_slice(&header)?;
-    for _ in 17..size {
-        bytes.push(0)?;
-    }
+    bytes.resize(size, 0)?;
     Ok(bytes)
 }
 

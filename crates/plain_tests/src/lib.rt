@@ -2,7 +2,7 @@
 #![tactic(auto)]
 
 #[cfg(test)]
-use checks::Fault;
+use checks::{Fault, Layer};
 
 #[cfg(test)]
 mod files;
@@ -12,9 +12,8 @@ mod matrices;
 mod sweeps;
 
 #[cfg(test)]
-fn is_fault(answer: Option<Fault>, number: u8, place: usize) -> bool {
-    match answer {
-        Some(fault) => fault.check.number() == number && fault.place == place,
-        None => false,
-    }
+fn is_fault(answer: Option<Fault>, number: u8, place: usize, layer: Layer) -> bool {
+    answer.is_some_and(|fault| {
+        fault.check.number() == number && fault.place == place && fault.layer == layer
+    })
 }

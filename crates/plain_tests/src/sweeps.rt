@@ -4,7 +4,7 @@ use arithmetic::doubles::Doubles;
 use arithmetic::minutes::{Minutes, NEVER};
 use arithmetic::sweeping::sweep_plainly;
 use arithmetic::system::System;
-use checks::Fault;
+use checks::{Fault, Layer};
 use matrix::pattern::Matrix;
 use std::test::Fail;
 
@@ -25,18 +25,11 @@ fn sweep_path<'a>(
     sweep_plainly(&Doubles, &system, sweeps, vector)
 }
 
-fn holds(vector: &[f64], a: f64, b: f64, c: f64) -> bool {
-    match vector {
-        [x, y, z] => *x == a && *y == b && *z == c,
-        _ => false,
-    }
-}
-
 #[test]
 fn in_its_own_order(rt: HostRuntime) {
     let mut vector = [0.0, 0.0, 0.0];
     assert!(rt; sweep_path(&COLUMNS, &[4.0, 0.0, 8.0], 1, &mut vector).is_ok());
-    assert!(rt; holds(&vector, 2.0, 1.0, 4.5));
+    assert!(rt; vector == [2.0, 1.0, 4.5]);
 }
 
 #[test]
@@ -44,9 +37,9 @@ fn in_the_reversed_numbering(rt: HostRuntime) {
     let columns = [0, 1, 1, 2, 0, 2, 1];
     let mut vector = [0.0, 0.0, 0.0];
     assert!(rt; sweep_path(&columns, &[8.0, 0.0, 4.0], 1, &mut vector).is_ok());
-    assert!(rt; holds(&vector, 4.0, 2.0, 3.0));
+    assert!(rt; vector == [4.0, 2.0, 3.0]);
     assert!(rt; sweep_path(&columns, &[8.0, 0.0, 4.0], 1, &mut vector).is_ok());
-    assert!(rt; holds(&vector, 5.0, 4.0, 4.0));
+    assert!(rt; vector == [5.0, 4.0, 4.0]);
 }
 
 const WEIGHTS: [f64; 7] = [1.0, -1.0, -1.0, -1.0, 1.0, 1.0, 1.0];
@@ -109,6 +102,7 @@ fn refusals_leave_the_vector(rt: HostRuntime) {
             sweep_path(&COLUMNS, &[4.0, 0.0, 8.0], 0, &mut vector).err(),
             1,
             3,
+            Layer::Matrix,
         )
     );
     assert!(rt;
@@ -116,6 +110,7 @@ fn refusals_leave_the_vector(rt: HostRuntime) {
             sweep_path(&COLUMNS, &[4.0, 0.0, 8.0], 17, &mut vector).err(),
             1,
             3,
+            Layer::Matrix,
         )
     );
     assert!(rt;
@@ -123,6 +118,7 @@ fn refusals_leave_the_vector(rt: HostRuntime) {
             sweep_path(&COLUMNS, &[4.0, 0.0], 1, &mut vector).err(),
             2,
             13,
+            Layer::Matrix,
         )
     );
     assert!(rt;
@@ -130,6 +126,7 @@ fn refusals_leave_the_vector(rt: HostRuntime) {
             sweep_path(&[0, 1, 1, 0, 3, 2, 1], &[4.0, 0.0, 8.0], 1, &mut vector).err(),
             4,
             4,
+            Layer::Matrix,
         )
     );
     assert!(rt;
@@ -137,7 +134,8 @@ fn refusals_leave_the_vector(rt: HostRuntime) {
             sweep_path(&COLUMNS, &[4.0, 1.0 / 0.0, 8.0], 1, &mut vector).err(),
             14,
             1,
+            Layer::Run,
         )
     );
-    assert!(rt; holds(&vector, 1.0, 2.0, 3.0));
+    assert!(rt; vector == [1.0, 2.0, 3.0]);
 }

@@ -14,7 +14,7 @@ use Rattle.plans.proofs.Checked.{none_from_passes}
 use Rattle.plans.proofs.Lawful.{lawful_rises, laid_out_opens}
 
 -- a checked tile table has passed what laying out checks
-pub table_passed : (x : TileTable) → laying_out_fault (tiling_of x) (points_of (tiling_of x)) (x.tiles * x.sweeps + 1) x.tiles ≡ None
+pub table_passed : (x : TileTable) → laying_out_fault (tiling_of x) (points_of (tiling_of x)) (x.tiling.tiles * x.tiling.sweeps + 1) x.tiling.tiles ≡ None
 table_passed x = none_from_passes (tiling_of x) _ _ _ (record {
   rows = (x.sized.0, x.sized.1);
   entries = (x.sized.2, x.sized.3);
@@ -34,8 +34,8 @@ module _ (x : Plan) where
   held_is_laid_out : tables_held x ≡ laid_out (tiling_held x)
   held_is_laid_out =
       let l = tiling_held x in
-      ap (λ a. tables_from l a x.starts.now x.words.now) x.scheduled
-      ∙ ap (λ b. tables_from l (schedule_of l) b x.words.now) x.started
+      ap (λ a. tables_from l a x.layout.starts.now x.layout.words.now) x.scheduled
+      ∙ ap (λ b. tables_from l (schedule_of l) b x.layout.words.now) x.started
       ∙ ap (λ c. tables_from l (schedule_of l) (schedule_starts_of l) c) x.waiting
 
   pub held_passed : opening_fault (tables_held x) ≡ None

@@ -3,6 +3,7 @@
 
 pub mod laws;
 pub mod layout;
+pub mod lent;
 pub mod plan;
 mod table;
 #[cfg(test)]

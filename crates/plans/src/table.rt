@@ -5,7 +5,7 @@ ghost use Rattle.matrix.specs.Patterns.{matrix_fault};
 ghost use Rattle.matrix.specs.Lent.{pattern_of};
 ghost use Rattle.plans.specs.Checked.{Sized, Counted, Long, Below};
 
-use matrix::pattern::Matrix;
+use crate::lent::Tiling;
 
 pub mod checking;
 pub mod comparing;
@@ -14,13 +14,10 @@ pub mod stretches;
 
 #[derive(Clone, Copy)]
 pub struct TileTable<'a> {
-    pub matrix: Matrix<'a>,
-    pub sweeps: u32,
-    pub tiles: u32,
-    pub cells: &'a [u8],
-    ghost sized: { Sized matrix },
-    ghost counted: { Counted sweeps tiles },
-    ghost long: { Long matrix sweeps cells.now },
-    ghost accepted: { is_some (matrix_fault PlanLayer (pattern_of matrix)) ≡ false },
-    ghost below: { Below cells.now tiles },
+    pub tiling: Tiling<'a>,
+    ghost sized: { Sized tiling.matrix },
+    ghost counted: { Counted tiling },
+    ghost long: { Long tiling },
+    ghost accepted: { is_some (matrix_fault PlanLayer (pattern_of tiling.matrix)) ≡ false },
+    ghost below: { Below tiling },
 }

@@ -1,6 +1,6 @@
 use crate::layout::lay_out;
+use crate::lent::{Layout, Tiling};
 use crate::plan::Plan;
-use crate::plan::opening::open;
 use checks::Fault;
 use matrix::pattern::Matrix;
 use std::process::Abort;
@@ -26,16 +26,9 @@ fn refused(rt: &impl Abort, res: Result<(), Fault>, number: u8, place: usize) ->
     }
 }
 
-fn opens<'a>(
-    rt: &impl Abort,
-    matrix: Matrix<'a>,
-    cells: &'a [u8],
-    schedule: &'a [u32],
-    starts: &'a [u32],
-    words: &'a [u64],
-) -> Result<(), Fail> {
+fn opens<'a>(rt: &impl Abort, tiling: Tiling<'a>, layout: Layout<'a>) -> Result<(), Fail> {
     let mut plan = Plan::built_in();
-    open(&mut plan, matrix, 2, 2, cells, schedule, starts, words)?;
+    plan.open(tiling, layout)?;
     assert_eq!(rt; plan.rows(), 3);
     assert_eq!(rt; plan.part(1, 1).len(), 2);
     assert_eq!(rt; plan.tile_points(0), 3);
@@ -57,142 +50,102 @@ fn the_path_opens(rt: HostRuntime) -> Result<(), Fail> {
         starts: &row_starts,
         columns: &columns,
     };
-    lay_out(
-        &matrix,
-        2,
-        2,
-        &cells,
-        &mut schedule,
-        &mut starts,
-        &mut words,
-    )?;
-    opens(&rt, matrix, &cells, &schedule, &starts, &words)
+    let tiling = Tiling {
+        matrix,
+        sweeps: 2,
+        tiles: 2,
+        cells: &cells,
+    };
+    lay_out(&tiling, &mut schedule, &mut starts, &mut words)?;
+    let layout = Layout {
+        schedule: &schedule,
+        starts: &starts,
+        words: &words,
+    };
+    opens(&rt, tiling, layout)
 }
 
 #[test]
 fn refusals_leave_the_plan(rt: HostRuntime) -> Result<(), Fail> {
-    let apart = Matrix {
-        rows: 2,
-        entries: 2,
-        starts: &PAIR_STARTS,
-        columns: &PAIR_COLUMNS,
+    let apart = Tiling {
+        matrix: Matrix {
+            rows: 2,
+            entries: 2,
+            starts: &PAIR_STARTS,
+            columns: &PAIR_COLUMNS,
+        },
+        sweeps: 1,
+        tiles: 2,
+        cells: &[0, 1],
     };
-    let linked = Matrix {
-        rows: 2,
-        entries: 3,
-        starts: &LINKED_STARTS,
-        columns: &LINKED_COLUMNS,
+    let linked = Tiling {
+        matrix: Matrix {
+            rows: 2,
+            entries: 3,
+            starts: &LINKED_STARTS,
+            columns: &LINKED_COLUMNS,
+        },
+        sweeps: 1,
+        tiles: 2,
+        cells: &[1, 0],
+    };
+    let unlawful = Layout {
+        schedule: &[1, 0],
+        starts: &[0, 1, 2],
+        words: &[2, 0],
+    };
+    let right = Layout {
+        schedule: &[0, 1],
+        starts: &[0, 1, 2],
+        words: &[0, 0],
+    };
+    let wrong_start = Layout {
+        starts: &[0, 0, 2],
+        ..right
+    };
+    let wrong_schedule = Layout {
+        schedule: &[1, 0],
+        ..right
+    };
+    let wrong_word = Layout {
+        words: &[0, 1],
+        ..right
     };
     let mut plan = Plan::built_in();
-    refused(
-        &rt,
-        open(
-            &mut plan,
-            linked,
-            1,
-            2,
-            &[1, 0],
-            &[1, 0],
-            &[0, 1, 2],
-            &[2, 0],
-        ),
-        9,
-        1,
-    )?;
-    refused(
-        &rt,
-        open(
-            &mut plan,
-            apart,
-            1,
-            2,
-            &[0, 1],
-            &[0, 1],
-            &[0, 0, 2],
-            &[0, 0],
-        ),
-        10,
-        1,
-    )?;
-    refused(
-        &rt,
-        open(
-            &mut plan,
-            apart,
-            1,
-            2,
-            &[0, 1],
-            &[1, 0],
-            &[0, 1, 2],
-            &[0, 0],
-        ),
-        11,
-        0,
-    )?;
-    refused(
-        &rt,
-        open(
-            &mut plan,
-            apart,
-            1,
-            2,
-            &[0, 1],
-            &[0, 1],
-            &[0, 1, 2],
-            &[0, 1],
-        ),
-        12,
-        1,
-    )?;
+    refused(&rt, plan.open(linked, unlawful), 9, 1)?;
+    refused(&rt, plan.open(apart, wrong_start), 10, 1)?;
+    refused(&rt, plan.open(apart, wrong_schedule), 11, 0)?;
+    refused(&rt, plan.open(apart, wrong_word), 12, 1)?;
     assert_eq!(rt; plan.rows(), 1);
-    open(
-        &mut plan,
-        apart,
-        1,
-        2,
-        &[0, 1],
-        &[0, 1],
-        &[0, 1, 2],
-        &[0, 0],
-    )?;
+    plan.open(apart, right)?;
     assert_eq!(rt; plan.rows(), 2);
     Ok(())
 }
 
 #[test]
 fn the_last_tile_is_waited_for(rt: HostRuntime) -> Result<(), Fail> {
-    let linked = Matrix {
+    let matrix = Matrix {
         rows: 2,
         entries: 3,
         starts: &LINKED_STARTS,
         columns: &LINKED_COLUMNS,
     };
+    let linked = Tiling {
+        matrix,
+        sweeps: 1,
+        tiles: 64,
+        cells: &[63, 0],
+    };
+    let one_more = Tiling {
+        tiles: 65,
+        ..linked
+    };
     let mut schedule = [9; 2];
     let mut starts = [9; 65];
     let mut words = [9; 64];
-    lay_out(
-        &linked,
-        1,
-        64,
-        &[63, 0],
-        &mut schedule,
-        &mut starts,
-        &mut words,
-    )?;
+    lay_out(&linked, &mut schedule, &mut starts, &mut words)?;
     assert_eq!(rt; words[0], 1 << 63);
     assert_eq!(rt; words[63], 0);
-    refused(
-        &rt,
-        lay_out(
-            &linked,
-            1,
-            65,
-            &[63, 0],
-            &mut schedule,
-            &mut starts,
-            &mut words,
-        ),
-        1,
-        4,
-    )
+    let answer = lay_out(&one_more, &mut schedule, &mut starts, &mut words);
+    refused(&rt, answer, 1, 4)
 }

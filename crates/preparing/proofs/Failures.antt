@@ -7,7 +7,7 @@ use Rattle.preparing.specs.Failing.{Fails, Answers}
 
 pub fails_as : (v w : Option Fault) (e : Failure) → ((f : Fault) → w ≡ Some f → v ≡ Some f) → Fails w e → Fails v e
 fails_as v w (Refusal f) so h = so f h
-fails_as v w NoMemory so h = tt
+fails_as v w (NoMemory e) so h = tt
 
 -- a verdict without a fault has no failure but want of memory
 pub none_fails : (v w : Option Fault) (e : Failure) → w ≡ None → Fails w e → Fails v e

@@ -1,5 +1,5 @@
 -- What is prepared of a problem, and that nothing is refused but what is defined. Assumes nothing.
-use Rattle.std.proofs.Common.{◌≡◌, ℕ, ◌+◌, ◌*◌, List, [], ◌∷◌, length, None, vec_items, Option, sym, ap, ◌∙◌, subst, ap₂}
+use Rattle.std.proofs.Common.{◌≡◌, ℕ, ◌+◌, ◌*◌, List, [], ◌∷◌, length, None, Option, sym, ap, ◌∙◌, subst, ap₂}
 use Rattle.checks.specs.declared.Layer.TheVariants.{Plan}
 use Rattle.checks.specs.declared.Fault.{Fault}
 use Rattle.checks.specs.Verdicts.{first_fault}
@@ -18,18 +18,11 @@ use Rattle.grown_plans.proofs.Opens.{grown_passes}
 use Rattle.plans.specs.Tilings.{Tiling}
 use Rattle.plans.specs.Opening.{laying_out_fault}
 use Rattle.preparing.specs.declared.failing.Failure.{Failure}
-use Rattle.preparing.specs.declared.numbered.Remapped.{Remapped}
 use Rattle.preparing.specs.Failing.{Fails}
-use Rattle.preparing.specs.Renumbered.{Holds, carrying_fault, tiling_in}
+use Rattle.preparing.specs.Renumbered.{carrying_fault}
 use Rattle.preparing.specs.Posed.{Posed, matrix_of, ranks_of, rows_of, tiling_of, preparing_fault}
 use Rattle.checks.proofs.Refusals.{skip}
 use Rattle.preparing.proofs.Verdicts.{rows_checked, carrying_checked}
-
--- tables that hold a tiling are that tiling
-pub tiling_held : (l : Tiling) (x : Remapped) → Holds l x → tiling_in l.pattern.rows l.pattern.entries l.sweeps l.count x ≡ l
-tiling_held l x h =
-    ap₂ (λ (a b : List ℕ). record { pattern = record { rows = l.pattern.rows; entries = l.pattern.entries; starts = a; columns = b }; sweeps = l.sweeps; count = l.count; tiles = vec_items x.tile_table }) h.0 h.1
-    ∙ ap (λ (t : List ℕ). record { pattern = l.pattern; sweeps = l.sweeps; count = l.count; tiles = t }) h.2
 
 module _ {C V : Type 0} (p : Posed C V)
     (grown : growing_fault (matrix_of p) p.sweeps p.tiles p.seed_sweep p.seed (p.sweeps * (matrix_of p).rows) (matrix_of p).entries ≡ None)
@@ -70,9 +63,9 @@ module _ {C V : Type 0} (p : Posed C V)
   preparing_none e = sym preparing_is ∙ e
 
   -- laying out refuses nothing
-  pub laying_none : (l : Tiling) → l ≡ tiling_of p → laying_out_fault l (p.sweeps * (matrix_of p).rows) (p.tiles * p.sweeps + 1) p.tiles ≡ None
+  pub laying_none : (l : Tiling) → l ≡ tiling_of p → laying_out_fault l (l.sweeps * l.pattern.rows) (l.count * l.sweeps + 1) l.count ≡ None
   laying_none l l_is =
-      ap (λ t. laying_out_fault t (p.sweeps * (matrix_of p).rows) (p.tiles * p.sweeps + 1) p.tiles) l_is ∙ (grown_passes (matrix_of p) p.sweeps p.tiles p.seed_sweep p.seed _ _ grown).2
+      ap (λ (t : Tiling). laying_out_fault t (t.sweeps * t.pattern.rows) (t.count * t.sweeps + 1) t.count) l_is ∙ (grown_passes (matrix_of p) p.sweeps p.tiles p.seed_sweep p.seed _ _ grown).2
 
   -- a list that is as long as the rows can be carried back
   pub back_passes : (n : ℕ) → n ≡ (matrix_of p).rows → first_fault (row_checks (matrix_of p).rows rank row n n) ≡ None

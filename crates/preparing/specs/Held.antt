@@ -8,8 +8,8 @@ abbrev pub posed_by : {C V : Type 0} → Problem C V → Posed C V
 posed_by p = record {
   equations = equations_of p.system;
   start = p.vector.now;
-  sweeps = p.sweeps;
-  seed_sweep = p.seed_sweep;
-  tiles = p.tiles;
-  seed = p.seed.now;
+  sweeps = p.seeding.sweeps;
+  seed_sweep = p.seeding.seed_sweep;
+  tiles = p.seeding.tiles;
+  seed = p.seeding.seed.now;
 }

@@ -16,9 +16,18 @@ use Rattle.preparing.specs.declared.numbered.Renumbered.{Renumbered}
 abbrev pub Ranks : ℕ → List ℕ → Ranking → Type 0
 Ranks rows rank x = (vec_items x.ranks ≡ rank) × (vec_items x.rows ≡ inverse rows rank)
 
--- the row starts, columns and tiles of a tiling
+-- the tiling in remapped tables
+abbrev pub tiling_in : Remapped → Tiling
+tiling_in x = record {
+  pattern = record { rows = x.rows; entries = x.entries; starts = vec_items x.starts; columns = vec_items x.columns };
+  sweeps = x.sweeps;
+  count = x.tiles;
+  tiles = vec_items x.tile_table;
+}
+
+-- tables that hold a tiling
 abbrev pub Holds : Tiling → Remapped → Type 0
-Holds l x = (vec_items x.starts ≡ l.pattern.starts) × (vec_items x.columns ≡ l.pattern.columns) × (vec_items x.tile_table ≡ l.tiles)
+Holds l x = tiling_in x ≡ l
 
 -- the matrix and its tiles with the rows in the order given
 abbrev pub moved : Pattern → ℕ → ℕ → List ℕ → List ℕ → List ℕ → Tiling
@@ -39,12 +48,3 @@ carrying_fault m rank row coefficients rhs start = first_fault (
 -- coefficients, right-hand side and start with the rows in the order given
 abbrev pub Carries : {C V : Type 0} → Pattern → List ℕ → List C → List V → List V → Figures C V → Type 0
 Carries m row cs bs x f = (vec_items f.coefficients ≡ carried_entries m row cs) × (vec_items f.right_hand_side ≡ carried_rows row bs) × (vec_items f.vector ≡ carried_rows row x)
-
--- the tiling in tables of R rows, E entries, T sweeps and k tiles
-abbrev pub tiling_in : ℕ → ℕ → ℕ → ℕ → Remapped → Tiling
-tiling_in rows entries sweeps tiles x = record {
-  pattern = record { rows = rows; entries = entries; starts = vec_items x.starts; columns = vec_items x.columns };
-  sweeps = sweeps;
-  count = tiles;
-  tiles = vec_items x.tile_table;
-}

@@ -1,16 +1,18 @@
 // Why a problem has no solution: a fault, or want of memory.
 ghost use Rattle.std.specs.Prelude.{◌≡◌};
+ghost use Rattle.std.specs.Allocator.{alloc_error};
 ghost use Rattle.preparing.specs.declared.failing.Failure.TheVariants.{Refusal, NoMemory};
 
 use checks::Fault;
 use std::alloc::{AllocError, AllocFailed};
 
-#[derive(Clone, Copy)]
+#[derive(Clone, Copy, Debug, PartialEq, Eq)]
 pub enum Failure {
     Refusal(Fault),
-    NoMemory,
+    NoMemory(AllocError),
 }
 
+// Kept: clauses name the failure that a `?` makes, and only an impl of one's own says which that is.
 impl From<Fault> for Failure {
     ghost from_gives = { λ fault r. r ≡ Refusal fault };
 
@@ -20,17 +22,17 @@ impl From<Fault> for Failure {
 }
 
 impl From<AllocError> for Failure {
-    ghost from_gives = { λ _ r. r ≡ NoMemory };
+    ghost from_gives = { λ error r. r ≡ NoMemory error };
 
-    fn from(_error: AllocError) -> Failure {
-        Failure::NoMemory
+    fn from(error: AllocError) -> Failure {
+        Failure::NoMemory(error)
     }
 }
 
 impl<T: Drop> From<AllocFailed<T>> for Failure {
-    ghost from_gives = { λ _ r. r ≡ NoMemory };
+    ghost from_gives = { λ _ r. r ≡ NoMemory alloc_error };
 
-    fn from(_refused: AllocFailed<T>) -> Failure {
-        Failure::NoMemory
+    fn from(refused: AllocFailed<T>) -> Failure {
+        Failure::NoMemory(refused.into())
     }
 }

@@ -1,13 +1,14 @@
 // Schedule, starts and wait words in memory from an allocator.
 ghost use Rattle.std.specs.Prelude.{◌≡◌, ◌+◌, ◌*◌};
-ghost use Rattle.plans.specs.Lent.{tiling_from};
+ghost use Rattle.plans.specs.Lent.{tiling_lent};
 ghost use Rattle.plans.specs.Opening.{laying_out_fault};
 ghost use Rattle.preparing.specs.Failing.{Answers};
 ghost use Rattle.preparing.specs.Layouts.{LaysOut};
 
 use crate::failing::Failure;
-use matrix::pattern::Matrix;
 use plans::layout::lay_out;
+use plans::lent;
+use plans::lent::Tiling;
 use std::alloc::Global;
 
 #[derive(Drop)]
@@ -17,23 +18,29 @@ pub struct Layout {
     pub words: Vec<u64>,
 }
 
-pub fn lay_tiles_out<'a>(
-    heap: Global,
-    matrix: &Matrix<'a>,
-    sweeps: u32,
-    tiles: u32,
-    tile_table: &'a [u8],
-) -> Result<Layout, Failure>
-    ensures { Answers (laying_out_fault (tiling_from matrix.now sweeps tiles tile_table.now) (sweeps * matrix.now.rows) (tiles * sweeps + 1) tiles) (LaysOut (tiling_from matrix.now sweeps tiles tile_table.now)) result }
+impl Layout {
+    pub fn lend(&self) -> lent::Layout<'_>
+        ensures schedule { result.schedule.now ≡ self.now.schedule.items }
+        ensures starts { result.starts.now ≡ self.now.starts.items }
+        ensures words { result.words.now ≡ self.now.words.items }
+    {
+        lent::Layout {
+            schedule: self.schedule.as_slice(),
+            starts: self.starts.as_slice(),
+            words: self.words.as_slice(),
+        }
+    }
+}
+
+pub fn lay_tiles_out(heap: Global, tiling: &Tiling<'_>) -> Result<Layout, Failure>
+    ensures { Answers (laying_out_fault (tiling_lent tiling.now) (tiling.now.sweeps * tiling.now.matrix.rows) (tiling.now.tiles * tiling.now.sweeps + 1) tiling.now.tiles) (LaysOut (tiling_lent tiling.now)) result }
 {
-    let mut schedule = vec![in heap; 0u32; sweeps as usize * matrix.rows as usize]?;
-    let mut starts = vec![in heap; 0u32; tiles as usize * sweeps as usize + 1]?;
-    let mut words = vec![in heap; 0u64; tiles as usize]?;
+    let (sweeps, tiles) = (tiling.sweeps as usize, tiling.tiles as usize);
+    let mut schedule = vec![in heap; 0u32; sweeps * tiling.matrix.rows as usize]?;
+    let mut starts = vec![in heap; 0u32; tiles * sweeps + 1]?;
+    let mut words = vec![in heap; 0u64; tiles]?;
     lay_out(
-        matrix,
-        sweeps,
-        tiles,
-        tile_table,
+        tiling,
         schedule.as_mut_slice(),
         starts.as_mut_slice(),
         words.as_mut_slice(),

@@ -7,7 +7,7 @@ ghost use Rattle.replay.specs.Traces.{call_line, value_text, values_line, closin
 use case_file::filed::Filed;
 use checks::Fault;
 use listing::digits::{Hexadecimal, ShortHexadecimal};
-use runs::run::closing::{Closing, End};
+use runs::run::closing::Closing;
 use std::alloc::AllocError;
 
 fn push_call(text: &mut String, number: u32, answer: Result<u32, Fault>) -> Result<(), AllocError>
@@ -41,8 +41,7 @@ fn push_values<K: Filed + Copy>(text: &mut String, values: &[K]) -> Result<(), A
 {
     write!(text, "values")?;
     push_bits(text, values)?;
-    write!(text, "\n")?;
-    Ok(())
+    writeln!(text)
 }
 
 // A call's answer, and the values after it.
@@ -61,10 +60,7 @@ pub(crate) fn note_call<K: Filed + Copy>(
 pub(crate) fn note_closing(text: &mut String, closing: Closing) -> Result<(), AllocError>
     ensures { OnOk result (string_bytes text.new ≡ string_bytes text.old ++ closing_line closing) }
 {
-    let done = ShortHexadecimal(closing.done);
-    let points = closing.points;
-    match closing.end {
-        End::Whole => writeln!(text, "closed done {done} points {points} whole"),
-        End::CutShort => writeln!(text, "closed done {done} points {points} cut short"),
-    }
+    let Closing { done, points, end } = closing;
+    let done = ShortHexadecimal(done);
+    writeln!(text, "closed done {done} points {points} {end}")
 }

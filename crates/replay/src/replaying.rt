@@ -32,37 +32,32 @@ use preparing::layouts::Layout;
 use preparing::numbered::Remapped;
 use preparing::posing::Problem;
 use preparing::prepared::{Prepared, open_tables, prepare};
+use runs::system::TiledSystem;
 use std::alloc::{AllocError, Global};
 
 // Opens what was prepared and retells a run over it.
-fn replay_prepared<'a, F: Filed + Copy, K: Arithmetic<Coefficient = F, Value = F>>(
+fn replay_prepared<F: Filed + Copy, K: Arithmetic<Coefficient = F, Value = F>>(
     heap: Global,
     arithmetic: &K,
-    rows: u32,
-    entries: u32,
-    sweeps: u32,
-    tiles: u32,
-    tables: &'a Remapped,
-    layout: &'a Layout,
-    coefficients: &'a [F],
-    right_hand_side: &'a [F],
+    tables: &Remapped,
+    layout: &Layout,
+    coefficients: &[F],
+    right_hand_side: &[F],
     vector: &mut [F],
     calls: &[u8],
 ) -> Result<String, Failure>
-    ensures { Answers (first_fault (opening_fault (tables_in rows entries sweeps tiles tables.now layout.now) ∷ beginning_fault (K.means arithmetic.now) (tiling_in rows entries sweeps tiles tables.now).pattern coefficients.now right_hand_side.now vector.old ∷ [])) (λ text. string_bytes text ≡ heading_of rows sweeps tiles ++ trace (K.means arithmetic.now) (equations_with (tiling_in rows entries sweeps tiles tables.now) coefficients.now right_hand_side.now) (tiling_in rows entries sweeps tiles tables.now) (2 * F.Filed.width) F.Filed.printed (begun vector.old) calls.now) result }
+    ensures { Answers (first_fault (opening_fault (tables_in tables.now layout.now) ∷ beginning_fault (K.means arithmetic.now) (tiling_in tables.now).pattern coefficients.now right_hand_side.now vector.old ∷ [])) (λ text. string_bytes text ≡ heading_of tables.now.rows tables.now.sweeps tables.now.tiles ++ trace (K.means arithmetic.now) (equations_with (tiling_in tables.now) coefficients.now right_hand_side.now) (tiling_in tables.now) (2 * F.Filed.width) F.Filed.printed (begun vector.old) calls.now) result }
 {
     let mut plan = Plan::built_in();
-    open_tables(&mut plan, rows, entries, sweeps, tiles, tables, layout)?;
-    let mut text = heading(heap, rows, sweeps, tiles)?;
-    trace_run(
-        &mut text,
+    open_tables(&mut plan, tables, layout)?;
+    let mut text = heading(heap, tables.rows, tables.sweeps, tables.tiles)?;
+    let system = TiledSystem {
         arithmetic,
-        &plan,
+        plan: &plan,
         coefficients,
         right_hand_side,
-        vector,
-        calls,
-    )?;
+    };
+    trace_run(&mut text, system, vector, calls)?;
     Ok(text)
 }
 
@@ -74,7 +69,6 @@ fn replay_problem<F: Filed + Copy, K: Arithmetic<Coefficient = F, Value = F>>(
 ) -> Result<String, Failure>
     ensures { Answers (solving_fault (K.means arithmetic.now) (posed_by problem.now)) (λ text. string_bytes text ≡ problem_trace (K.means arithmetic.now) F.Filed.width F.Filed.printed (posed_by problem.now) calls.now) result }
 {
-    let matrix = problem.system.matrix;
     let Prepared {
         ranking: _,
         tables,
@@ -89,10 +83,6 @@ fn replay_problem<F: Filed + Copy, K: Arithmetic<Coefficient = F, Value = F>>(
     replay_prepared(
         heap,
         arithmetic,
-        matrix.rows,
-        matrix.entries,
-        problem.sweeps,
-        problem.tiles,
         &tables,
         &layout,
         coefficients.as_slice(),
@@ -114,7 +104,7 @@ fn problem_text<F: Filed + Copy, K: Arithmetic<Coefficient = F, Value = F>>(
     match replay_problem(heap, arithmetic, problem, calls) {
         Ok(text) => Ok(text),
         Err(Failure::Refusal(fault)) => refusal(heap, fault),
-        Err(Failure::NoMemory) => Err(AllocError),
+        Err(Failure::NoMemory(error)) => Err(error),
     }
 }
 
@@ -135,6 +125,7 @@ fn case_text<F: Filed + Copy, K: Arithmetic<Coefficient = F, Value = F>>(
 fn kind_text(heap: Global, case: &Case<'_>, calls: &[u8]) -> Result<String, AllocError>
     ensures { IfOk result (λ text. string_bytes text ≡ kind_text_of case.now.kind (contents_of case.now) calls.now) }
 {
+    // Kept: a closure cannot be generic over the arithmetic, so each kind's call is written out.
     match case.kind {
         Kind::Doubles => case_text(heap, &Doubles, case, calls),
         Kind::Minutes => case_text(heap, &Minutes, case, calls),

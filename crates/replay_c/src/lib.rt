@@ -13,5 +13,6 @@ use std::alloc::Global;
 pub extern "C" fn curtzano_replay(heap: Global, file: &[u8], calls: &[u8], out: &mut [u8]) -> usize
     ensures { ((result ≡ 0) × (out.new ≡ out.old)) ⊎ ((result ≡ length (replayed file.now calls.now)) × (out.new ≡ handed_out (replayed file.now calls.now) out.old)) }
 {
-    replay_into(heap, file, calls, out)
+    // Kept: 0 is what callers in C are told of want of memory; a text is never empty.
+    replay_into(heap, file, calls, out).unwrap_or(0)
 }

@@ -1,5 +1,5 @@
 -- How many tiles are done, and how many points they can have. Assumes nothing.
-use Rattle.std.proofs.Common.{◌≡◌, ℕ, zero, suc, ◌+◌, ◌*◌, ◌^◌, ◌<◌, ◌≤◌, Bool, false, cond, ◌||◌, eqb, ◌⊎◌, List, [], ◌∷◌, length, count_by, sym, ap, ◌∙◌, subst, inl, inr, mul-le-mul_right, arith}
+use Rattle.std.proofs.Common.{◌≡◌, ℕ, zero, suc, ◌+◌, ◌*◌, ◌^◌, ◌<◌, ◌≤◌, Bool, false, cond, ◌||◌, eqb, ◌⊎◌, List, [], ◌∷◌, length, None, count_by, sym, ap, ◌∙◌, subst, inl, inr, mul-le-mul_right, arith}
 use lib.Bits.{bit_or}
 use Rattle.std.specs.List.{AllByRecursion as All}
 use Rattle.std.proofs.lemmas.List.FromFn.{length-range_with_len}
@@ -10,8 +10,11 @@ use Rattle.checks.specs.Lists.{upto}
 use Rattle.points.specs.Points.{Tiles, tile_rows, size}
 use Rattle.points.proofs.Uptos.{count_more}
 use Rattle.points.proofs.Counts.{sum_same}
+use Rattle.plans.specs.Tilings.{Tiling, tile_of}
 use Rattle.plans.specs.Words.{bit}
 use Rattle.plans.proofs.Wordbits.{bit_set}
+use Rattle.runs.specs.Calls.{Sizes, call_fault, points_of}
+use Rattle.runs.proofs.Accepted.{call_free}
 
 module _ (w u : ℕ) (clear : bit w u ≡ false) where
   after : ℕ → Bool
@@ -67,14 +70,24 @@ fit : (a b n points : ℕ) → b ≡ a + 1 → b ≤ 64 → n ≤ 16777216 → p
 fit a b n points e h few before = (omega arith, omega arith)
 
 -- one call more leaves a count of points that fits
-pub points_fit : (w u n points : ℕ) → u < 64 → bit w u ≡ false → n ≤ 16777216 → points ≤ 16777216 * count_by (bit w) (upto 64)
+points_fit : (w u n points : ℕ) → u < 64 → bit w u ≡ false → n ≤ 16777216 → points ≤ 16777216 * count_by (bit w) (upto 64)
     → (points + n ≤ 16777216 * count_by (bit (bit_or w (2 ^ u))) (upto 64)) × (points + n ≤ 1073741824)
 points_fit w u n points h clear few before =
     fit (count_by (bit w) (upto 64)) (count_by (bit (bit_or w (2 ^ u))) (upto 64)) n points (count_set w u clear 64 h) (count_by-le-length (bit (bit_or w (2 ^ u))) (upto 64)) few before
 
 -- a tile of a plan has no more points than the greatest plan
-pub size_few : (R T : ℕ) (tile : Tiles) (t : ℕ) → R ≤ 1048576 → T ≤ 16 → size R T tile t ≤ 16777216
+size_few : (R T : ℕ) (tile : Tiles) (t : ℕ) → R ≤ 1048576 → T ≤ 16 → size R T tile t ≤ 16777216
 size_few R T tile t h k =
     let a = size_le R T tile t in
     let b : T * R ≤ 16 * R = mul-le-mul_right R k in
     omega arith
+
+-- the points of a call that is not refused fit the count of points
+pub call_fits : (n : Sizes) (done points : ℕ) (l : Tiling) (coefficients rhs x u : ℕ) → l.pattern.rows ≤ 1048576 → l.sweeps ≤ 16 → l.count ≤ 64 → points ≤ 16777216 * count_by (bit done) (upto 64)
+    → call_fault n done l coefficients rhs x u ≡ None
+    → (points_of l u ≤ 16777216) × (points + points_of l u ≤ 1073741824) × (points + points_of l u ≤ 16777216 * count_by (bit (bit_or done (2 ^ u))) (upto 64))
+call_fits n done points l coefficients rhs x u rows sweeps tiles few e =
+    let free = call_free n done l coefficients rhs x u e in
+    let small = size_few l.pattern.rows l.sweeps (tile_of l) u rows sweeps in
+    let fit = points_fit done u (points_of l u) points (omega (arith, free.0)) free.1 small few in
+    (small, fit.1, fit.0)

@@ -6,9 +6,9 @@ use Rattle.std.proofs.lemmas.Bool.{cond-true, cond-false, eq-eqb, ltb-true, lt-l
 use Rattle.checks.specs.declared.Check.TheVariants.{Size, NoSuchTile, TileDone, TileWaiting}
 use Rattle.checks.specs.declared.Layer.TheVariants.{Run as run_layer}
 use Rattle.checks.specs.declared.Fault.{Fault}
-use Rattle.checks.specs.Verdicts.{fault_if, lowest, first_fault, unless_refused}
+use Rattle.checks.specs.Verdicts.{fault_if, lowest, unless_refused}
 use Rattle.checks.proofs.Firsts.{lowest_none, lowest_passed}
-use Rattle.checks.proofs.Refusals.{both_passed}
+use Rattle.checks.proofs.Refusals.{both_passed, all_none, fault_none, only}
 use Rattle.arithmetic.specs.Meanings.{Meaning}
 use Rattle.arithmetic.specs.Sweeps.{updated}
 use Rattle.points.specs.Points.{size}
@@ -16,7 +16,7 @@ use Rattle.points.specs.Runs.{State, accepts, with_tile, call}
 use Rattle.points.proofs.Uptos.{every_at, every_from}
 use Rattle.plans.specs.Tilings.{Tiling, tile_of, waits}
 use Rattle.plans.specs.Words.{bit}
-use Rattle.plans.proofs.Wordbits.{bit_set, bit_zero}
+use Rattle.plans.proofs.Wordbits.{bit_set}
 use Rattle.runs.specs.declared.run.Run.{Run}
 use Rattle.runs.specs.Calls.{Sizes, sizes_of, differing_fault, lengths_fault, tile_fault, call_fault, tile_swept, advanced}
 use Rattle.runs.specs.Held.{sizes_held, progress_held, equations_with}
@@ -65,31 +65,17 @@ module _ (l : Tiling) (done : ℕ → Bool) (u : ℕ) where
 
 same_sizes : (l : Tiling) → differing_fault (sizes_of l) (sizes_of l) ≡ None
 same_sizes l =
-    let r : (a : ℕ) → not (eqb a a) ≡ false = λ a. ap not (eq-eqb a a refl) in
-    let all : Bool → Bool → Bool → Bool → Option Fault = λ a b c d. first_fault (fault_if run_layer Size 1 a ∷ fault_if run_layer Size 2 b ∷ fault_if run_layer Size 3 c ∷ fault_if run_layer Size 4 d ∷ []) in
-    ap₂ (λ a b. all a b (not (eqb l.sweeps l.sweeps)) (not (eqb l.count l.count))) (r l.pattern.rows) (r l.pattern.entries) ∙ ap₂ (all false false) (r l.sweeps) (r l.count)
+    let size : ℕ → ℕ → Option Fault = λ place a. fault_if run_layer Size place (not (eqb a a)) in
+    let same : (place a : ℕ) → size place a ≡ None = λ place a. fault_none run_layer Size place (not (eqb a a)) (ap not (eq-eqb a a refl)) in
+    all_none (size 1 l.pattern.rows ∷ size 2 l.pattern.entries ∷ size 3 l.sweeps ∷ size 4 l.count ∷ []) (same 1 l.pattern.rows, (same 2 l.pattern.entries, (same 3 l.sweeps, (same 4 l.count, tt))))
 
 -- a call on the run's own plan and tables turns on its number alone
 pub own_call : (n : Sizes) (done : ℕ) (l : Tiling) (coefficients rhs x u : ℕ) → n ≡ sizes_of l → lengths_fault l.pattern coefficients rhs x ≡ None → call_fault n done l coefficients rhs x u ≡ tile_fault l (bit done) u
 own_call n done l coefficients rhs x u sized long =
     let same : differing_fault n (sizes_of l) ≡ None = ap (λ a. differing_fault a (sizes_of l)) sized ∙ same_sizes l in
-    ap₂ (λ a b. option_or a (option_or b (option_or (tile_fault l (bit done) u) None))) same long ∙ alone (tile_fault l (bit done) u)
-  where
-    alone : (v : Option Fault) → option_or v None ≡ v
-    alone None = refl
-    alone (Some f) = refl
+    only (differing_fault n (sizes_of l) ∷ lengths_fault l.pattern coefficients rhs x ∷ []) (tile_fault l (bit done) u) [] (same, (long, tt)) (λ _. tt)
 
 module _ {C V : Type 0} (m : Meaning C V) (l : Tiling) (cs : List C) (bs x : List V) where
-  -- at the beginning nothing is done
-  pub reached_none : (r : Run) → sizes_held r ≡ sizes_of l → lengths_fault l.pattern (length cs) (length bs) (length x) ≡ None → progress_held r ≡ record { done = 0; points = 0 } → Reached m l cs bs x [] r x
-  reached_none r sized long fresh = record {
-    sizes = sized;
-    lengths = long;
-    done = λ t. ap (λ p. bit p.done t) fresh ∙ bit_zero t;
-    points = ap (λ p. p.points) fresh;
-    values = refl;
-  }
-
   pub after_more : (calls : List ℕ) (u : ℕ) → after m l cs bs x (calls ++ u ∷ []) ≡ call (λ c i y. updated m (equations_with l cs bs) y i) l.pattern.rows l.sweeps l.count (tile_of l) (waits l) (after m l cs bs x calls) u
   after_more calls u = fold_push (call (λ c i y. updated m (equations_with l cs bs) y i) l.pattern.rows l.sweeps l.count (tile_of l) (waits l)) _ calls u
 

@@ -3,4 +3,5 @@
 
 pub mod laws;
 pub mod run;
+pub mod system;
 pub mod whole;

@@ -6,6 +6,9 @@ ghost use Rattle.plans.specs.Words.{bit};
 pub mod beginning;
 pub mod calling;
 pub mod closing;
+pub(crate) mod tile_set;
+
+use self::tile_set::TileSet;
 
 // It cannot be copied, made but by beginning, or let go but by closing.
 pub struct Run {
@@ -13,7 +16,7 @@ pub struct Run {
     entries: u32,
     sweeps: u32,
     tiles: u32,
-    done: u64,
+    done: TileSet,
     points: u32,
     ghost counted: { tiles ≤ 64 },
     // no more than T * R points for each done tile

@@ -1,19 +1,30 @@
 -- One piece more of a text. Assumes nothing.
-use Rattle.std.proofs.Common.{◌≡◌, ℕ, ◌+◌, ◌*◌, ◌<◌, ◌≤◌, List, [], ◌∷◌, ◌++◌, sym, ap, ◌∙◌, append_assoc, mul-le-mul_right, add-mul, one-mul, arith}
-use Rattle.std.specs.List.{flat_map}
-use Rattle.std.proofs.lemmas.List.{flat_map_more}
+use Rattle.std.proofs.Common.{◌≡◌, ℕ, ◌+◌, ◌-◌, ◌*◌, ◌≤◌, List, [], ◌∷◌, ◌++◌, length, take, drop, sym, ap, ◌∙◌, length-append, length-drop, add-mul, one-mul, arith}
+use Rattle.std.specs.List.{between, flat_map}
+use Rattle.std.proofs.lemmas.List.{flat_map_more, take_at, drop_at, drop-drop}
 
 module _ {X : Type 0} (piece : X → List ℕ) (start before after : List ℕ) where
   pub pieces_more : (xs : List X) (x : X) {ys : List X} → ys ≡ xs ++ x ∷ [] → before ≡ start ++ flat_map piece xs → after ≡ before ++ piece x → after ≡ start ++ flat_map piece ys
   pieces_more xs x e inv w = w ∙ ap (λ a. a ++ piece x) inv ∙ flat_map_more piece start xs x ∙ ap (λ zs. start ++ flat_map piece zs) (sym e)
 
--- three pieces, one after the other
-pub thrice : (t0 t1 t2 t3 a b c : List ℕ) → t1 ≡ t0 ++ a → t2 ≡ t1 ++ b → t3 ≡ t2 ++ c → t3 ≡ t0 ++ ((a ++ b) ++ c)
-thrice t0 t1 t2 t3 a b c p q r = r ∙ ap (λ t. t ++ c) (q ∙ ap (λ t. t ++ b) p) ∙ simp append_assoc
+-- the part of a table that a loop has left, s rows in: its next row, and the parts that are left then
+module _ (table rest row left : List ℕ) (s rows : ℕ) (begins : rest ≡ drop (s * rows) table) (splits : rest ≡ row ++ left) (size : length row ≡ rows) where
+  more : (s + 1) * rows ≡ s * rows + rows
+  more = add-mul s 1 rows ∙ ap (λ x. s * rows + x) (one-mul rows)
 
--- a row of the table ends within it
-pub row_within : (s rows sweeps : ℕ) → s < sweeps → s * rows + rows ≤ sweeps * rows
-row_within s rows sweeps l =
-    let m : (s + 1) * rows ≤ sweeps * rows = mul-le-mul_right rows (omega arith) in
-    let e : (s + 1) * rows ≡ s * rows + rows = add-mul s 1 rows ∙ ap (λ x. s * rows + x) (one-mul rows) in
-    omega arith
+  pub row_taken : row ≡ between (s * rows) (s * rows + rows) table
+  row_taken =
+      let n : rows ≡ s * rows + rows - s * rows = omega arith in
+      sym (take_at row left rows size) ∙ ap (take rows) (sym splits ∙ begins) ∙ ap (λ i. take i (drop (s * rows) table)) n
+
+  pub left_after : left ≡ drop ((s + 1) * rows) table
+  left_after = sym (drop_at row left rows size) ∙ ap (drop rows) (sym splits ∙ begins) ∙ drop-drop rows (s * rows) table ∙ ap (λ i. drop i table) (sym more)
+
+  pub ends_within : s * rows ≤ length table → (s + 1) * rows ≤ length table
+  ends_within l =
+      let a = length-append row left in
+      let b = length-drop (s * rows) table in
+      let c = ap length splits in
+      let d = ap length begins in
+      let e = more in
+      omega arith

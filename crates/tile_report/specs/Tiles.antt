@@ -3,6 +3,7 @@ use Rattle.std.specs.Prelude.{ℕ, ◌+◌, ◌*◌, List, ◌++◌, codes, deci
 use Rattle.std.specs.List.{between, flat_map}
 use Rattle.checks.specs.Lists.{upto}
 use Rattle.listing.specs.Refusals.{newline}
+use Rattle.listing.specs.Lines.{heading}
 
 -- one tile, behind a space
 abbrev pub cell : ℕ → List ℕ
@@ -18,4 +19,4 @@ sweeps_text rows table sweeps = flat_map (λ c. sweep_line (c + 1) (between (c *
 
 -- the whole listing
 abbrev pub tiles_text : ℕ → ℕ → ℕ → List ℕ → List ℕ
-tiles_text rows sweeps tiles table = (codes "rows " ++ (decimal rows ++ (codes " sweeps " ++ (decimal sweeps ++ (codes " tiles " ++ (decimal tiles ++ newline)))))) ++ sweeps_text rows table sweeps
+tiles_text rows sweeps tiles table = heading rows sweeps tiles ++ sweeps_text rows table sweeps

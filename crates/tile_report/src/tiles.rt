@@ -1,8 +1,9 @@
 // The lines of a grown tile table.
-ghost use Rattle.std.specs.Prelude.{◌≡◌, ◌*◌, ◌++◌, length, IfOk, string_bytes, OnOk};
+ghost use Rattle.std.specs.Prelude.{◌≡◌, ◌*◌, ◌/◌, ◌<◌, ◌++◌, length, IfOk, string_bytes, OnOk};
 ghost use Rattle.std.specs.List.{flat_map};
 ghost use Rattle.tile_report.specs.Tiles.{cell, sweep_line, sweeps_text, tiles_text};
 
+use listing::headings::heading;
 use std::alloc::{AllocError, Global};
 
 fn push_cells(text: &mut String, cells: &[u8]) -> Result<(), AllocError>
@@ -19,22 +20,15 @@ fn push_sweep(text: &mut String, sweep: usize, cells: &[u8]) -> Result<(), Alloc
 {
     write!(text, "sweep {sweep} tiles")?;
     push_cells(text, cells)?;
-    write!(text, "\n")?;
-    Ok(())
+    writeln!(text)
 }
 
-fn push_sweeps(
-    text: &mut String,
-    rows: usize,
-    table: &[u8],
-    sweeps: usize,
-) -> Result<(), AllocError>
-    requires { length table.now ≡ sweeps * rows }
-    ensures { OnOk result (string_bytes text.new ≡ string_bytes text.old ++ sweeps_text rows table.now sweeps) }
+fn push_sweeps(text: &mut String, rows: usize, table: &[u8]) -> Result<(), AllocError>
+    requires some { 0 < rows }
+    ensures { OnOk result (string_bytes text.new ≡ string_bytes text.old ++ sweeps_text rows table.now (length table.now / rows)) }
 {
-    for sweep in 0..sweeps {
-        let from = sweep * rows;
-        push_sweep(text, sweep + 1, &table[from..from + rows])?;
+    for (sweep, cells) in table.chunks_exact(rows).enumerate() {
+        push_sweep(text, sweep + 1, cells)?;
     }
     Ok(())
 }
@@ -47,10 +41,11 @@ pub(crate) fn tiles_listing(
     tiles: u32,
     table: &[u8],
 ) -> Result<String, AllocError>
-    requires { length table.now ≡ sweeps * rows }
+    requires some { 0 < rows }
+    requires whole { length table.now ≡ sweeps * rows }
     ensures { IfOk result (λ text. string_bytes text ≡ tiles_text rows sweeps tiles table.now) }
 {
-    let mut text = format!(in heap; "rows {rows} sweeps {sweeps} tiles {tiles}\n")?;
-    push_sweeps(&mut text, rows as usize, table, sweeps as usize)?;
+    let mut text = heading(heap, rows, sweeps, tiles)?;
+    push_sweeps(&mut text, rows as usize, table)?;
     Ok(text)
 }

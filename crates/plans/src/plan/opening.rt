@@ -3,13 +3,13 @@ ghost use Rattle.std.specs.Prelude.{◌≡◌, OnErr};
 ghost use Rattle.std.specs.Result.{result_err};
 ghost use Rattle.checks.specs.Verdicts.{unless_refused};
 ghost use Rattle.plans.specs.Opening.{opening_fault, laid_out};
-ghost use Rattle.plans.specs.Lent.{tiling_from};
-ghost use Rattle.plans.specs.Held.{tables_from, tables_held};
+ghost use Rattle.plans.specs.Held.{tables_lent, tables_held};
 ghost use Rattle.plans.specs.BuiltIn.{built_in_tiling};
 
 use super::Plan;
+use crate::lent::{Layout, Tiling};
 use crate::table::TileTable;
-use crate::table::checking::check_tables;
+use crate::table::checking::Lengths;
 use checks::Fault;
 use matrix::pattern::Matrix;
 
@@ -36,46 +36,37 @@ impl<'a> Plan<'a> {
             starts: &ROW_STARTS,
             columns: &COLUMNS,
         };
-        Plan {
-            table: TileTable::of(matrix, 1, 1, &CELLS),
+        let tiling = Tiling {
+            matrix,
+            sweeps: 1,
+            tiles: 1,
+            cells: &CELLS,
+        };
+        let layout = Layout {
             schedule: &SCHEDULE,
             starts: &SCHEDULE_STARTS,
             words: &WAIT_WORDS,
+        };
+        Plan {
+            table: TileTable { tiling },
+            layout,
         }
     }
-}
 
-// Opens into the plan that the caller holds; refused, it leaves that as it was. Matrix and tile table are in the new numbering.
-pub fn open<'a>(
-    plan: &mut Plan<'a>,
-    matrix: Matrix<'a>,
-    sweeps: u32,
-    tiles: u32,
-    tile_table: &'a [u8],
-    schedule: &'a [u32],
-    schedule_starts: &'a [u32],
-    wait_words: &'a [u64],
-) -> Result<(), Fault>
-    ensures fault { result_err result ≡ opening_fault (tables_from (tiling_from matrix.entry sweeps tiles tile_table.now) schedule.now schedule_starts.now wait_words.now) }
-    ensures held { tables_held plan.new ≡ unless_refused (opening_fault (tables_from (tiling_from matrix.entry sweeps tiles tile_table.now) schedule.now schedule_starts.now wait_words.now)) (tables_from (tiling_from matrix.entry sweeps tiles tile_table.now) schedule.now schedule_starts.now wait_words.now) (tables_held plan.old) }
-    ensures same { OnErr result (plan.new ≡ plan.old) }
-{
-    check_tables(
-        &matrix,
-        sweeps,
-        tiles,
-        tile_table,
-        schedule.len(),
-        schedule_starts.len(),
-        wait_words.len(),
-    )?;
-    let table = TileTable::of(matrix, sweeps, tiles, tile_table);
-    table.check_laid_out(schedule, schedule_starts, wait_words)?;
-    *plan = Plan {
-        table,
-        schedule,
-        starts: schedule_starts,
-        words: wait_words,
-    };
-    Ok(())
+    // Opens into the plan that the caller holds; refused, it leaves that as it was.
+    pub fn open(&mut self, tiling: Tiling<'a>, layout: Layout<'a>) -> Result<(), Fault>
+        ensures fault { result_err result ≡ opening_fault (tables_lent tiling.entry layout.entry) }
+        ensures held { tables_held self.new ≡ unless_refused (opening_fault (tables_lent tiling.entry layout.entry)) (tables_lent tiling.entry layout.entry) (tables_held self.old) }
+        ensures same { OnErr result (self.new ≡ self.old) }
+    {
+        let lengths = Lengths {
+            schedule: layout.schedule.len(),
+            starts: layout.starts.len(),
+            words: layout.words.len(),
+        };
+        let table = TileTable::check(tiling, lengths)?;
+        table.check_laid_out(&layout)?;
+        *self = Plan { table, layout };
+        Ok(())
+    }
 }

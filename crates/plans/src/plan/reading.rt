@@ -8,7 +8,7 @@ ghost use Rattle.points.specs.Points.{Lawful as LawfulTiles, Tells, size};
 ghost use Rattle.points.specs.Schedules.{begins};
 ghost use Rattle.plans.specs.Tilings.{tile_of, precedes, rows_in, waits};
 ghost use Rattle.plans.specs.Words.{bit, wait_words_of};
-ghost use Rattle.plans.specs.Opening.{opening_fault, laid_out};
+ghost use Rattle.plans.specs.Opening.{opening_fault};
 ghost use Rattle.plans.specs.Checked.{Sized};
 ghost use Rattle.plans.specs.Held.{tiling_held, tables_held};
 
@@ -34,14 +34,14 @@ impl<'a> Plan<'a> {
         ensures value { result ≡ (tiling_held self.now).sweeps }
         ensures limits { (1 ≤ result) × (result ≤ 16) }
     {
-        self.table.sweeps
+        self.table.tiling.sweeps
     }
 
     pub fn tiles(&self) -> u32
         ensures value { result ≡ (tiling_held self.now).count }
         ensures limits { (1 ≤ result) × (result ≤ 64) }
     {
-        self.table.tiles
+        self.table.tiling.tiles
     }
 
     pub fn matrix(&self) -> Matrix<'a>
@@ -50,16 +50,16 @@ impl<'a> Plan<'a> {
         ensures limits { Sized result }
         ensures accepted { is_some (matrix_fault PlanLayer (pattern_of result)) ≡ false }
     {
-        self.table.matrix
+        self.table.tiling.matrix
     }
 
     // Where a stretch starts in the schedule.
     fn start(&self, stretch: usize) -> usize
         requires { stretch ≤ (tiling_held self.now).count * (tiling_held self.now).sweeps }
         ensures value { result ≡ begins (tiling_held self.now).pattern.rows (tiling_held self.now).sweeps (tile_of (tiling_held self.now)) stretch }
-        ensures within { result ≤ length self.now.schedule.now }
+        ensures within { result ≤ length self.now.layout.schedule.now }
     {
-        self.starts[stretch] as usize
+        self.layout.starts[stretch] as usize
     }
 
     // The rows that a tile has in a sweep, rising; none if there is no such tile or sweep.
@@ -67,24 +67,24 @@ impl<'a> Plan<'a> {
         ensures value { result.now ≡ (if nat_lt tile (tiling_held self.now).count && nat_lt sweep (tiling_held self.now).sweeps then rows_in (tiling_held self.now) tile sweep else []) }
         ensures below { (i : ℕ) → i < length result.now → at result.now i < (tiling_held self.now).pattern.rows }
     {
-        if tile >= self.table.tiles || sweep >= self.table.sweeps {
-            return &self.schedule[0..0];
+        if tile >= self.table.tiling.tiles || sweep >= self.table.tiling.sweeps {
+            return &self.layout.schedule[0..0];
         }
-        let stretch = tile as usize * self.table.sweeps as usize + sweep as usize;
+        let stretch = tile as usize * self.table.tiling.sweeps as usize + sweep as usize;
         let from = self.start(stretch);
         let to = self.start(stretch + 1);
-        &self.schedule[from..to]
+        &self.layout.schedule[from..to]
     }
 
     // How many points a tile has; none if there is no such tile.
     pub fn tile_points(&self, tile: u32) -> usize
         ensures { result ≡ size (tiling_held self.now).pattern.rows (tiling_held self.now).sweeps (tile_of (tiling_held self.now)) tile }
     {
-        if tile >= self.table.tiles {
+        if tile >= self.table.tiling.tiles {
             return 0;
         }
-        let first = tile as usize * self.table.sweeps as usize;
-        self.start(first + self.table.sweeps as usize) - self.start(first)
+        let first = tile as usize * self.table.tiling.sweeps as usize;
+        self.start(first + self.table.tiling.sweeps as usize) - self.start(first)
     }
 
     // The tiles that a tile waits for, as bits; none if there is no such tile.
@@ -92,10 +92,10 @@ impl<'a> Plan<'a> {
         ensures value { result ≡ at (wait_words_of (tiling_held self.now)) tile }
         ensures tells { tile < (tiling_held self.now).count → (t : ℕ) → t < (tiling_held self.now).count → bit result t ≡ waits (tiling_held self.now) tile t }
     {
-        if tile >= self.table.tiles {
+        if tile >= self.table.tiling.tiles {
             return 0;
         }
-        self.words[tile as usize]
+        self.layout.words[tile as usize]
     }
 
     // Every plan that is held has passed all of opening's checks.

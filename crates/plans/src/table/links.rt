@@ -1,119 +1,117 @@
 // Who waits for whom, and the first point that a higher tile precedes: one walk over the entries, in every sweep.
 ghost use Rattle.std.specs.Prelude.{◌≡◌, ◌+◌, ◌*◌, ◌<◌, length, fold};
-ghost use Rattle.checks.specs.Lists.{first_where as firstWhere};
-ghost use Rattle.plans.specs.Tilings.{overtaken_at};
+ghost use Rattle.std.specs.Option.{option_map};
+ghost use Rattle.checks.specs.declared.Check.TheVariants.{Lawful as LawfulCheck};
+ghost use Rattle.checks.specs.declared.Layer.TheVariants.{Plan as PlanLayer};
+ghost use Rattle.checks.specs.Verdicts.{fault_at};
 ghost use Rattle.plans.specs.Words.{wait_words_of};
-ghost use Rattle.plans.specs.Pairs.{sweep_pairs, link_pairs, row_pairs, all_pairs, noted, lowered};
+ghost use Rattle.plans.specs.Pairs.{sweep_pairs, link_pairs, row_pairs, noted, lowered};
+ghost use Rattle.plans.specs.Opening.{lawful_fault};
 ghost use Rattle.plans.specs.Lent.{tiling_of};
 
 use super::TileTable;
 
+// Kept: as a ghost field, the words' length would need the table here too, and each method to say that it stays the same.
+// What the pairs so far show: who waits for whom, and the lowest point that a higher tile precedes.
+#[derive(Drop)]
+struct Notes<'w> {
+    words: &'w mut [u64],
+    lowest: usize,
+}
+
 impl TileTable<'_> {
     // Where a point stands in the tile table.
     fn point(&self, sweep: usize, row: usize) -> usize
-        requires sweep { sweep < self.now.sweeps }
-        requires row { row < self.now.matrix.rows }
-        ensures value { result ≡ sweep * self.now.matrix.rows + row }
-        ensures within { result < length self.now.cells.now }
+        requires sweep { sweep < self.now.tiling.sweeps }
+        requires row { row < self.now.tiling.matrix.rows }
+        ensures value { result ≡ sweep * self.now.tiling.matrix.rows + row }
+        ensures within { result < length self.now.tiling.cells.now }
     {
-        sweep * self.matrix.rows as usize + row
+        sweep * self.tiling.matrix.rows as usize + row
     }
 
-    // Notes a point that directly precedes another; answers the lowest point so far that a higher tile precedes.
-    fn note_pair(&self, words: &mut [u64], lowest: usize, before: usize, after: usize) -> usize
-        requires words { length words.old ≡ self.now.tiles }
-        requires before { before < length self.now.cells.now }
-        requires after { after < length self.now.cells.now }
-        ensures words { words.new ≡ noted self.now.cells.now words.old (before, after) }
-        ensures lowest { result ≡ lowered self.now.cells.now lowest (before, after) }
+    // Notes a point that directly precedes another.
+    fn note_pair(&self, notes: &mut Notes, before: usize, after: usize)
+        requires words { length notes.old.words.now ≡ self.now.tiling.tiles }
+        requires before { before < length self.now.tiling.cells.now }
+        requires after { after < length self.now.tiling.cells.now }
+        ensures same_words { notes.new.words.ghost_name ≡ notes.old.words.ghost_name }
+        ensures words { notes.new.words.now ≡ noted self.now.tiling.cells.now notes.old.words.now (before, after) }
+        ensures lowest { notes.new.lowest ≡ lowered self.now.tiling.cells.now notes.old.lowest (before, after) }
     {
-        let early = self.cells[before];
-        let late = self.cells[after];
+        let early = self.tiling.cells[before];
+        let late = self.tiling.cells[after];
         if early != late {
-            words[late as usize] |= 1 << early;
+            notes.words[late as usize] |= 1 << early;
         }
         if late < early {
-            lowest.min(after)
-        } else {
-            lowest
+            notes.lowest = notes.lowest.min(after);
         }
     }
 
     // An entry of row v with column w, in one sweep.
-    fn note_sweep(
-        &self,
-        words: &mut [u64],
-        lowest: usize,
-        v: usize,
-        w: usize,
-        sweep: usize,
-    ) -> usize
-        requires words { length words.old ≡ self.now.tiles }
-        requires v { v < self.now.matrix.rows }
-        requires w { w < self.now.matrix.rows }
-        requires sweep { sweep < self.now.sweeps }
-        ensures words { words.new ≡ fold (noted self.now.cells.now) words.old (sweep_pairs self.now.matrix.rows self.now.sweeps v w sweep) }
-        ensures lowest { result ≡ fold (lowered self.now.cells.now) lowest (sweep_pairs self.now.matrix.rows self.now.sweeps v w sweep) }
+    fn note_sweep(&self, notes: &mut Notes, v: usize, w: usize, sweep: usize)
+        requires words { length notes.old.words.now ≡ self.now.tiling.tiles }
+        requires v { v < self.now.tiling.matrix.rows }
+        requires w { w < self.now.tiling.matrix.rows }
+        requires sweep { sweep < self.now.tiling.sweeps }
+        ensures same_words { notes.new.words.ghost_name ≡ notes.old.words.ghost_name }
+        ensures words { notes.new.words.now ≡ fold (noted self.now.tiling.cells.now) notes.old.words.now (sweep_pairs self.now.tiling.matrix.rows self.now.tiling.sweeps v w sweep) }
+        ensures lowest { notes.new.lowest ≡ fold (lowered self.now.tiling.cells.now) notes.old.lowest (sweep_pairs self.now.tiling.matrix.rows self.now.tiling.sweeps v w sweep) }
     {
         let next = sweep + 1;
-        let mut lowest = lowest;
-        if next < self.sweeps as usize {
-            lowest = self.note_pair(words, lowest, self.point(sweep, v), self.point(next, w));
-            lowest = self.note_pair(words, lowest, self.point(sweep, w), self.point(next, v));
+        if next < self.tiling.sweeps as usize {
+            self.note_pair(notes, self.point(sweep, v), self.point(next, w));
+            self.note_pair(notes, self.point(sweep, w), self.point(next, v));
         }
         if v != w {
             let (low, high) = (v.min(w), v.max(w));
-            lowest = self.note_pair(
-                words,
-                lowest,
-                self.point(sweep, low),
-                self.point(sweep, high),
-            );
+            self.note_pair(notes, self.point(sweep, low), self.point(sweep, high));
         }
-        lowest
     }
 
     // An entry of row v with column w, in all sweeps.
-    fn note_link(&self, words: &mut [u64], lowest: usize, v: usize, w: usize) -> usize
-        requires words { length words.old ≡ self.now.tiles }
-        requires v { v < self.now.matrix.rows }
-        requires w { w < self.now.matrix.rows }
-        ensures words { words.new ≡ fold (noted self.now.cells.now) words.old (link_pairs self.now.matrix.rows self.now.sweeps v w) }
-        ensures lowest { result ≡ fold (lowered self.now.cells.now) lowest (link_pairs self.now.matrix.rows self.now.sweeps v w) }
+    fn note_link(&self, notes: &mut Notes, v: usize, w: usize)
+        requires words { length notes.old.words.now ≡ self.now.tiling.tiles }
+        requires v { v < self.now.tiling.matrix.rows }
+        requires w { w < self.now.tiling.matrix.rows }
+        ensures same_words { notes.new.words.ghost_name ≡ notes.old.words.ghost_name }
+        ensures words { notes.new.words.now ≡ fold (noted self.now.tiling.cells.now) notes.old.words.now (link_pairs self.now.tiling.matrix.rows self.now.tiling.sweeps v w) }
+        ensures lowest { notes.new.lowest ≡ fold (lowered self.now.tiling.cells.now) notes.old.lowest (link_pairs self.now.tiling.matrix.rows self.now.tiling.sweeps v w) }
     {
-        let mut lowest = lowest;
-        for sweep in 0..self.sweeps as usize {
-            lowest = self.note_sweep(words, lowest, v, w, sweep);
+        for sweep in 0..self.tiling.sweeps as usize {
+            self.note_sweep(notes, v, w, sweep);
         }
-        lowest
     }
 
     // The entries of row v.
-    fn note_row(&self, words: &mut [u64], lowest: usize, v: u32) -> usize
-        requires words { length words.old ≡ self.now.tiles }
-        requires v { v < self.now.matrix.rows }
-        ensures words { words.new ≡ fold (noted self.now.cells.now) words.old (row_pairs (tiling_of self.now) v) }
-        ensures lowest { result ≡ fold (lowered self.now.cells.now) lowest (row_pairs (tiling_of self.now) v) }
+    fn note_row(&self, notes: &mut Notes, v: u32)
+        requires words { length notes.old.words.now ≡ self.now.tiling.tiles }
+        requires v { v < self.now.tiling.matrix.rows }
+        ensures same_words { notes.new.words.ghost_name ≡ notes.old.words.ghost_name }
+        ensures words { notes.new.words.now ≡ fold (noted self.now.tiling.cells.now) notes.old.words.now (row_pairs (tiling_of self.now) v) }
+        ensures lowest { notes.new.lowest ≡ fold (lowered self.now.tiling.cells.now) notes.old.lowest (row_pairs (tiling_of self.now) v) }
     {
-        let mut lowest = lowest;
-        let part = self.matrix.row(self.matrix.columns, v);
-        for column in part {
-            lowest = self.note_link(words, lowest, v as usize, *column as usize);
+        for column in self.tiling.matrix.row(self.tiling.matrix.columns, v) {
+            self.note_link(notes, v as usize, *column as usize);
         }
-        lowest
     }
 
-    // Writes the wait words; answers the first point that a higher tile precedes, or the number of points.
-    pub fn note_waits(&self, words: &mut [u64]) -> usize
-        requires { length words.old ≡ self.now.tiles }
+    // Writes the wait words; answers the first point that a higher tile precedes.
+    pub(crate) fn note_waits(&self, words: &mut [u64]) -> Option<usize>
+        requires { length words.old ≡ self.now.tiling.tiles }
         ensures words { words.new ≡ wait_words_of (tiling_of self.now) }
-        ensures lowest { result ≡ firstWhere (overtaken_at (tiling_of self.now)) (length self.now.cells.now) }
+        ensures lowest { option_map (fault_at PlanLayer LawfulCheck) result ≡ lawful_fault (tiling_of self.now) }
     {
         words.fill(0);
-        let mut lowest = self.cells.len();
-        for v in 0..self.matrix.rows {
-            lowest = self.note_row(words, lowest, v);
+        let points = self.tiling.cells.len();
+        let mut notes = Notes {
+            words,
+            lowest: points,
+        };
+        for v in 0..self.tiling.matrix.rows {
+            self.note_row(&mut notes, v);
         }
-        lowest
+        (notes.lowest < points).then_some(notes.lowest)
     }
 }

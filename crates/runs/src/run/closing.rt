@@ -1,10 +1,9 @@
 // Closing a run.
-ghost use Rattle.std.specs.Prelude.{◌≡◌, ◌≤◌};
-ghost use Rattle.runs.specs.Calls.{all_done};
-ghost use Rattle.runs.specs.Held.{sizes_held, progress_held, closing_of};
+ghost use Rattle.std.specs.Prelude.{◌≡◌, Some};
+ghost use Rattle.runs.specs.Held.{sizes_held, progress_held, closing_of, end_word};
 
 use super::Run;
-use crate::run::calling::has;
+use std::fmt;
 
 // All tiles were done, or not.
 #[derive(Clone, Copy, PartialEq, Eq, Debug)]
@@ -13,24 +12,23 @@ pub enum End {
     CutShort,
 }
 
+impl fmt::Display for End {
+    ghost output = { λ end. Some (end_word end) };
+
+    fn fmt<W: fmt::Write>(&self, f: &mut fmt::Formatter<W>) -> fmt::Result {
+        f.write_str(match self {
+            End::Whole => "whole",
+            End::CutShort => "cut short",
+        })
+    }
+}
+
 // What closing answers: the done tiles as bits, and the updated points.
-#[derive(Clone, Copy)]
+#[derive(Clone, Copy, PartialEq, Eq, Debug)]
 pub struct Closing {
     pub done: u64,
     pub points: u32,
     pub end: End,
-}
-
-fn all_done(tiles: u32, done: u64) -> bool
-    requires { tiles ≤ 64 }
-    ensures { result ≡ all_done tiles done }
-{
-    for t in 0..tiles {
-        if !has(done, t) {
-            return false;
-        }
-    }
-    true
 }
 
 impl Run {
@@ -46,11 +44,15 @@ impl Run {
             done,
             points,
         } = self;
-        let end = if all_done(tiles, done) {
+        let end = if done.has_all(tiles) {
             End::Whole
         } else {
             End::CutShort
         };
-        Closing { done, points, end }
+        Closing {
+            done: done.0,
+            points,
+            end,
+        }
     }
 }

@@ -23,7 +23,7 @@ returns-in_err-describe_tiles g c =
 pub returns : goal.returns
 returns g c =
     let m = g.K.Arithmetic.means c.args.arithmetic.now in
-    let handed = tables_in c.args.rows c.args.entries c.args.sweeps c.args.tiles c.args.tables.now c.args.layout.now in
+    let handed = tables_in c.args.tables.now c.args.layout.now in
     let l = handed.tiling in
     let cs = c.args.coefficients.now in
     let bs = c.args.right_hand_side.now in

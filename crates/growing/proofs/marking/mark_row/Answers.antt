@@ -1,12 +1,8 @@
-use Rattle.std.proofs.Common.{◌<◌, length, arith}
+use Rattle.std.proofs.Common.{length, arith}
 use Rattle.std.proofs.lemmas.List.FromFn.{fill_by_all}
-use Rattle.std.proofs.ByRecursion.{All-get_or}
 use Rattle.checks.specs.Lists.{at}
 use Rattle.growing.specs.Marks.{remark}
 use Rattle.growing.proofs.marking.mark_row.Goals as goal
-
-pub bounds-tiles-columns : goal.bounds-tiles-columns
-bounds-tiles-columns c = All-get_or (λ w. w < length c.args.tiles.now) c.args.columns.now c.loop-e.e 0 c.loop-e-test.true c.requires.columns
 
 pub returns : goal.returns
 returns c =

@@ -22,15 +22,15 @@ pub returns-in_err-ranking : goal.returns-in_err-ranking
 returns-in_err-ranking c =
     let m = pattern_of c.args.matrix.now in
     let grown = c.in_ok-tile_table.ensures in
-    let passes = grown_passes m c.args.sweeps c.args.tiles c.args.seed_sweep c.args.seed.now _ _ grown.0 in
+    let passes = grown_passes m c.args.seeding.now.sweeps c.args.seeding.now.tiles c.args.seeding.now.seed_sweep c.args.seeding.now.seed.now _ _ grown.0 in
     let p = err_from_is_err_and c.from_residual-in_err-ranking.result c.from_residual-in_err-ranking.ensures.1 in
-    rw (p.1, p.2) (none_fails _ _ c.in_err-ranking.field-0.0 (order_passes m.rows c.args.sweeps (tile_table_of m c.args.sweeps c.args.seed_sweep c.args.tiles c.args.seed.now) c.as_slice.result.now (c.as_slice.ensures.value ∙ grown.1) passes.0) c.in_err-ranking.ensures)
+    rw (p.1, p.2) (none_fails _ _ c.in_err-ranking.field-0.0 (order_passes m.rows c.args.seeding.now.sweeps (tile_table_of m c.args.seeding.now.sweeps c.args.seeding.now.seed_sweep c.args.seeding.now.tiles c.args.seeding.now.seed.now) c.as_slice.result.now (c.as_slice.ensures.value ∙ grown.1) passes.0) c.in_err-ranking.ensures)
 
 pub returns-in_err-tables : goal.returns-in_err-tables
 returns-in_err-tables c =
     let m = pattern_of c.args.matrix.now in
     let grown = c.in_ok-tile_table.ensures in
     let ranked = c.in_ok-ranking.ensures.1 in
-    let passes = grown_passes m c.args.sweeps c.args.tiles c.args.seed_sweep c.args.seed.now _ _ grown.0 in
+    let passes = grown_passes m c.args.seeding.now.sweeps c.args.seeding.now.tiles c.args.seeding.now.seed_sweep c.args.seeding.now.seed.now _ _ grown.0 in
     let p = err_from_is_err_and c.from_residual-in_err-tables.result c.from_residual-in_err-tables.ensures.1 in
-    rw (p.1, p.2) (none_fails _ _ c.in_err-tables.field-0.0 (remap_passes m c.args.sweeps (tile_table_of m c.args.sweeps c.args.seed_sweep c.args.tiles c.args.seed.now) c.as_slice.result.now c.as_slice-2.result.now _ _ (c.as_slice.ensures.value ∙ grown.1) (c.as_slice-2.ensures.value ∙ grown.1) ranked.0 ranked.1 passes.1) c.in_err-tables.ensures)
+    rw (p.1, p.2) (none_fails _ _ c.in_err-tables.field-0.0 (remap_passes m c.args.seeding.now.sweeps (tile_table_of m c.args.seeding.now.sweeps c.args.seeding.now.seed_sweep c.args.seeding.now.tiles c.args.seeding.now.seed.now) c.as_slice.result.now c.as_slice-2.result.now _ _ (c.as_slice.ensures.value ∙ grown.1) (c.as_slice-2.ensures.value ∙ grown.1) ranked.0 ranked.1 passes.1) c.in_err-tables.ensures)

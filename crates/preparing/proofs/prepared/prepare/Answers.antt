@@ -3,10 +3,10 @@ use Rattle.std.proofs.lemmas.Result.{err_from_is_err_and}
 use Rattle.numbering.specs.Order.{carried_rows, carried_entries}
 use Rattle.plans.specs.Tilings.{schedule_of, schedule_starts_of}
 use Rattle.plans.specs.Words.{wait_words_of}
-use Rattle.preparing.specs.Posed.{matrix_of, tiling_of}
+use Rattle.preparing.specs.Posed.{matrix_of}
 use Rattle.preparing.specs.Held.{posed_by}
 use Rattle.preparing.proofs.Failures.{none_fails}
-use Rattle.preparing.proofs.Stepwise.{tiling_held, carrying_fails, preparing_none, laying_none}
+use Rattle.preparing.proofs.Stepwise.{carrying_fails, preparing_none, laying_none}
 use Rattle.preparing.proofs.prepared.prepare.Goals as goal
 
 pub returns-in_err-figures : goal.returns-in_err-figures
@@ -21,7 +21,7 @@ returns-in_err-layout g c =
     let p = posed_by c.args.problem.now in
     let new = c.in_ok-ranking.ensures in
     let q = err_from_is_err_and c.from_residual-in_err-layout.result c.from_residual-in_err-layout.ensures.1 in
-    rw (q.1, q.2) (none_fails _ _ c.in_err-layout.field-0.0 (laying_none p new.0 _ _ new.1.0.0 new.1.0.1 _ (tiling_held (tiling_of p) c.in_ok-ranking.field-0.tables new.1.1)) c.in_err-layout.ensures)
+    rw (q.1, q.2) (none_fails _ _ c.in_err-layout.field-0.0 (laying_none p new.0 _ _ new.1.0.0 new.1.0.1 _ (c.lend.ensures ∙ new.1.1)) c.in_err-layout.ensures)
 
 pub returns : goal.returns
 returns g c =
@@ -29,7 +29,7 @@ returns g c =
     let new = c.in_ok-ranking.ensures in
     let carried = c.in_ok-figures.ensures in
     let laid = c.in_ok-layout.ensures.1 in
-    let l_is = tiling_held (tiling_of p) c.in_ok-ranking.field-0.tables new.1.1 in
+    let l_is = c.lend.ensures ∙ new.1.1 in
     let row_is = new.1.0.1 in (
       preparing_none p new.0 _ _ new.1.0.0 row_is carried.0,
       (

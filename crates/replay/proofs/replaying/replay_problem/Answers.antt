@@ -1,5 +1,6 @@
 use Rattle.std.proofs.Common.{◌*◌, ◌++◌, ap, ◌∙◌, ap₂}
 use Rattle.listing.specs.Lines.{heading}
+use Rattle.plans.specs.Tilings.{Tiling}
 use Rattle.preparing.specs.Posed.{matrix_of, tiling_of, renumbered}
 use Rattle.preparing.specs.Held.{posed_by}
 use Rattle.preparing.proofs.Failures.{answers_as}
@@ -21,6 +22,6 @@ returns g c =
     let start = start_new m p prepared.0 x prepared.1 _ _ _ c.as_slice.ensures.value c.as_slice-2.ensures.value c.as_mut_slice.ensures.value in
     let tiling = l_is m p prepared.0 x prepared.1 _ _ _ c.as_slice.ensures.value c.as_slice-2.ensures.value c.as_mut_slice.ensures.value in
     answers_as _ _ _ _ c.replay_prepared.result (running_is m p prepared.0 x prepared.1 _ _ _ c.as_slice.ensures.value c.as_slice-2.ensures.value c.as_mut_slice.ensures.value)
-    (λ text e. e ∙ ap₂ (λ s l. heading (matrix_of p).rows p.sweeps p.tiles ++ trace m s l digits bits (begun c.as_mut_slice.result.now) calls) same tiling
+    (λ text e. e ∙ ap₂ (λ s (l : Tiling). heading l.pattern.rows l.sweeps l.count ++ trace m s l digits bits (begun c.as_mut_slice.result.now) calls) same tiling
     ∙ ap (λ y. heading (matrix_of p).rows p.sweeps p.tiles ++ trace m (renumbered p) (tiling_of p) digits bits (begun y) calls) start)
     c.replay_prepared.ensures

@@ -9,10 +9,10 @@ use Rattle.run_uses.proofs.reading.points_of_one_call.Goals as goal
 
 pub returns : goal.returns
 returns g c =
-    let m = g.K.Arithmetic.means c.args.arithmetic.now in
-    let l = tiling_held c.args.plan.now in
-    let cs = c.args.coefficients.now in
-    let bs = c.args.right_hand_side.now in
+    let m = g.K.Arithmetic.means c.args.system.now.arithmetic.now in
+    let l = tiling_held c.args.system.now.plan.now in
+    let cs = c.args.system.now.coefficients.now in
+    let bs = c.args.system.now.right_hand_side.now in
     let x = c.args.vector.now in
     let u = c.args.number in
     let begun = c.in_ok-run.ensures in

@@ -5,4 +5,6 @@ use Rattle.tile_report.proofs.reporting.grown_listing.Goals as goal
 
 pub tiles_listing-requires : goal.tiles_listing-requires
 tiles_listing-requires c =
-    c.grow.auto.tile_table ∙ (accepted (pattern_of c.args.matrix.now) c.args.sweeps c.args.tiles c.args.seed_sweep c.args.seed.now (length c.args.tile_table.now) (length c.args.marks.now) (sym c.in-Ok.ensures.fault)).cells_are
+    let x = c.args.seeding.now in
+    let a = accepted (pattern_of c.args.matrix.now) x.sweeps x.tiles x.seed_sweep x.seed.now (length c.args.tile_table.now) (length c.args.marks.now) (sym c.in-Ok.ensures.fault) in
+    record { some = a.some; whole = c.grow.auto.tile_table ∙ a.cells_are }

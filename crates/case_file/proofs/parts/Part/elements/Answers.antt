@@ -1,20 +1,14 @@
-use Rattle.std.proofs.Common.{◌/◌, ◌<◌, [], ◌∷◌, length, vec_items, ap, ◌∙◌, subst}
-use Rattle.std.proofs.lemmas.Slice.{pushed}
-use Rattle.case_file.specs.Elements.{element_count}
-use Rattle.case_file.proofs.Whole.{next_element, never_none}
+use Rattle.std.proofs.Common.{◌≡◌, vec_items, rules, tests, IfOk, subst}
+use Rattle.std.proofs.lemmas.Iterator.{items_from_collect}
+use Rattle.std.proofs.lemmas.Iterator.Consumers.{YieldsList-at, YieldsList-from_filter_map}
+use Rattle.case_file.specs.Elements.{one_element}
+use Rattle.case_file.proofs.Whole.{parts_come, all_found}
 use Rattle.case_file.proofs.parts.Part.elements.Goals as goal
-use Rattle.case_file.proofs.parts.Part.elements.Goals.{in-Some+in_ok-push, in_default}
 
-pub loop-i-preserved : goal.loop-i-preserved
-loop-i-preserved g c =
+pub returns : goal.returns
+returns g c =
     let width = g.K.Filed.width in
-    let filed = g.K.Filed.filed in
     let bytes = c.args.self.now.bytes.now in
-    let i = c.loop-i.i in
-    let here : i < element_count width bytes = subst (λ n. i < length bytes / n) c.width.ensures c.loop-i-test.true in
-    elim c.match-element.branch [
-      | in-Some+in_ok-push w ↦
-          let x = w.in-Some.element in
-          ap vec_items w.list-is ∙ pushed (x ∷ []) c.loop-i.invariant w.in_ok-push.was w.push.ensures.items ∙ next_element width filed bytes i here x w.in-Some.ensures
-      | in_default w ↦ absurd (never_none width filed bytes i here w.in_default.ensures)
-    ]
+    let parts = parts_come width bytes c.chunks_exact.result (search rules) c.chunks_exact.ensures.rest (search rules) in
+    subst (λ xs. IfOk c.collect.result (λ v. vec_items v ≡ xs)) (all_found width g.K.Filed.filed bytes)
+    (items_from_collect _ c.collect.ensures.ran (YieldsList-from_filter_map _ (one_element width g.K.Filed.filed) (YieldsList-at c.filter_map.ensures.source parts) c.filter_map.ensures.closure (λ x r q k. search (rules, tests))))

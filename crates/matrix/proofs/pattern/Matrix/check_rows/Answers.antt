@@ -1,18 +1,15 @@
-use Rattle.std.proofs.Common.{◌≡◌, true, eqb, count_by, sym, ap, ◌∙◌, arith}
-use Rattle.std.proofs.lemmas.Bool.{ne_eqb, not_from_false}
+use Rattle.std.proofs.Common.{◌≡◌, Some, sym, arith, rules}
 use Rattle.checks.specs.declared.Check.TheVariants.{Row}
-use Rattle.checks.proofs.Firsts.{lowest_found, lowest_none}
-use Rattle.matrix.specs.Patterns.{bad_row, row_part}
+use Rattle.checks.proofs.Firsts.{lowest_refused, lowest_none}
+use Rattle.matrix.specs.Patterns.{bad_row, rows_fault}
 use Rattle.matrix.specs.Lent.{pattern_of}
 use Rattle.matrix.proofs.pattern.Matrix.check_rows.Goals as goal
 
-pub returns-then-own_entries-ne1 : goal.returns-then-own_entries-ne1
-returns-then-own_entries-ne1 c =
+pub returns-in_err-refuse_if : goal.returns-in_err-refuse_if
+returns-in_err-refuse_if c =
     let m = pattern_of c.args.self.now in
-    let row = c.loop-row.row in
-    let own : c.own_entries.result ≡ count_by (eqb row) (row_part m m.columns row) = c.own_entries.ensures ∙ ap (count_by (eqb row)) {y = row_part m m.columns row} c.row.ensures in
-    let bad : bad_row m row ≡ true = not_from_false _ (ne_eqb _ _ (λ q. c.if-own_entries-ne1.true (own ∙ q))) in
-    sym (lowest_found c.args.layer Row (bad_row m) m.rows row (omega arith) c.loop-row.invariant bad)
+    let e : rows_fault c.args.layer m ≡ Some c.in_err-refuse_if.field-0.0 = lowest_refused c.args.layer Row (bad_row m) m.rows c.loop-row.row c.in_err-refuse_if.field-0.0 (search rules) c.loop-row.invariant (search rules) in
+    search (rules, e)
 
 pub returns : goal.returns
 returns c = sym (lowest_none c.args.layer Row (bad_row (pattern_of c.args.self.now)) c.args.self.now.rows (λ k l. c.loop-row.invariant k (omega arith)))

@@ -6,13 +6,13 @@ use Rattle.plans.proofs.Readings.{starts_long, starts_at}
 use Rattle.plans.proofs.plan.Plan.start.Goals as goal
 
 pub bounds-self-stretch : goal.bounds-self-stretch
-bounds-self-stretch c = let x = c.args.self.now in omega (arith, starts_long (tiling_held x) x.starts.now x.started, c.requires)
+bounds-self-stretch c = let x = c.args.self.now in omega (arith, starts_long (tiling_held x) x.layout.starts.now x.started, c.requires)
 
 pub returns : goal.returns
 returns c =
     let x = c.args.self.now in
     let l = tiling_held x in
-    let e = starts_at l x.starts.now x.started c.args.stretch c.requires in
+    let e = starts_at l x.layout.starts.now x.started c.args.stretch c.requires in
     record {
       value = e;
       within = omega (arith, e, begins_rises l.pattern.rows l.sweeps (tile_of l) c.args.stretch (l.count * l.sweeps) c.requires, ap length x.scheduled, length_schedule l.pattern.rows l.sweeps l.count (tile_of l));

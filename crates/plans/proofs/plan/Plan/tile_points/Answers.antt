@@ -1,5 +1,4 @@
-use Rattle.std.proofs.Common.{◌+◌, sym, arith}
-use Rattle.std.proofs.lemmas.Nat.{mul-le}
+use Rattle.std.proofs.Common.{sym, arith}
 use Rattle.points.proofs.Schedules.{begins_along}
 use Rattle.plans.specs.Tilings.{tile_of}
 use Rattle.plans.specs.Held.{tiling_held}
@@ -12,12 +11,6 @@ returns-then-tile-self c =
     let x = c.args.self.now in
     let y = x.table in
     sym (no_points (tiling_held x) (small (tiling_held x) y.sized.0 y.counted.0 y.long.2 y.below) c.args.tile c.if-tile-self.true)
-
-pub start-requires : goal.start-requires
-start-requires c = let x = c.args.self.now.table in omega (arith, mul-le (c.args.tile + 1) x.sweeps x.tiles x.sweeps (omega (arith, c.if-tile-self.false)) (omega arith))
-
-pub start-requires-2 : goal.start-requires-2
-start-requires-2 c = let x = c.args.self.now.table in omega (arith, mul-le c.args.tile x.sweeps x.tiles x.sweeps (omega (arith, c.if-tile-self.false)) (omega arith))
 
 pub overflow_sub-result : goal.overflow_sub-result
 overflow_sub-result c =

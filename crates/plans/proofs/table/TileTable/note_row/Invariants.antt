@@ -4,5 +4,6 @@ use Rattle.plans.specs.Pairs.{link_pairs, noted, lowered}
 use Rattle.plans.proofs.table.TileTable.note_row.Given as goal
 
 abbrev pub invariant-loop-column : goal.invariant-loop-column
-invariant-loop-column l = (l.words ≡ fold (noted l.self.cells.now) l.initial.words (flat_map (link_pairs l.self.matrix.rows l.self.sweeps l.v) (take l.column-index l.part)))
-    × (l.lowest ≡ fold (lowered l.self.cells.now) l.initial.lowest (flat_map (link_pairs l.self.matrix.rows l.self.sweeps l.v) (take l.column-index l.part)))
+invariant-loop-column l = (l.notes.words.ghost_name ≡ l.initial.notes.words.ghost_name)
+    × (l.notes.words.now ≡ fold (noted l.self.tiling.cells.now) l.initial.notes.words.now (flat_map (link_pairs l.self.tiling.matrix.rows l.self.tiling.sweeps l.v) (take l.column-index l.column-items)))
+    × (l.notes.lowest ≡ fold (lowered l.self.tiling.cells.now) l.initial.notes.lowest (flat_map (link_pairs l.self.tiling.matrix.rows l.self.tiling.sweeps l.v) (take l.column-index l.column-items)))

@@ -6,5 +6,6 @@ use Rattle.plans.specs.Lent.{tiling_of}
 use Rattle.plans.proofs.table.TileTable.note_waits.Given as goal
 
 abbrev pub invariant-loop-v : goal.invariant-loop-v
-invariant-loop-v l = (l.words ≡ fold (noted l.self.cells.now) l.initial.words (flat_map (row_pairs (tiling_of l.self)) (upto l.v)))
-    × (l.lowest ≡ fold (lowered l.self.cells.now) l.initial.lowest (flat_map (row_pairs (tiling_of l.self)) (upto l.v)))
+invariant-loop-v l = (l.notes.words.ghost_name ≡ l.initial.notes.words.ghost_name)
+    × (l.notes.words.now ≡ fold (noted l.self.tiling.cells.now) l.initial.notes.words.now (flat_map (row_pairs (tiling_of l.self)) (upto l.v)))
+    × (l.notes.lowest ≡ fold (lowered l.self.tiling.cells.now) l.initial.notes.lowest (flat_map (row_pairs (tiling_of l.self)) (upto l.v)))

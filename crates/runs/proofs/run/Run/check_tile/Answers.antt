@@ -17,6 +17,6 @@ returns c =
     let done = bit c.args.self.now.done in
     let k = c.tiles-tiles.ensures.value in
     let inside : u < l.count = omega (arith, k, leb-false _ _ (fault_passed Run NoSuchTile u _ (sym c.in_ok-refuse_if.ensures))) in
-    let waiting = c.check_waits.ensures ∙ ap (lowest Run TileWaiting (λ t. bit c.wait_word.result t && not (done t))) k ∙ lowest_same Run TileWaiting _ (λ t. waits l u t && not (done t)) l.count (λ t h. ap (λ b. b && not (done t)) (c.wait_word.ensures.tells inside t h)) in
+    let waiting = c.check_done.ensures ∙ ap (lowest Run TileWaiting (λ t. bit c.wait_word.result t && not (done t))) k ∙ lowest_same Run TileWaiting _ (λ t. waits l u t && not (done t)) l.count (λ t h. ap (λ b. b && not (done t)) (c.wait_word.ensures.tells inside t h)) in
     then_later (c.in_ok-refuse_if.ensures ∙ ap (λ n. fault_if Run NoSuchTile u (leb n u)) k)
     (then_later (c.in_ok-refuse_if-2.ensures ∙ ap (fault_if Run TileDone u) c.has.ensures) (then_last waiting))

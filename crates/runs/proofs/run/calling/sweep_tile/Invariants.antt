@@ -8,5 +8,5 @@ use Rattle.runs.proofs.run.calling.sweep_tile.Given as goal
 
 abbrev pub invariant-loop-sweep : goal.invariant-loop-sweep
 invariant-loop-sweep g l =
-    let m = g.K.Arithmetic.means l.arithmetic in
-    l.vector ≡ through (λ c i y. updated m (equations_of l.system) y i) (rows_in (tiling_held l.plan) l.number) l.sweep l.initial.vector
+    let m = g.K.Arithmetic.means l.system.arithmetic.now in
+    l.vector ≡ through (λ c i y. updated m (equations_of l.equations) y i) (rows_in (tiling_held l.system.plan.now) l.number) l.sweep l.initial.vector

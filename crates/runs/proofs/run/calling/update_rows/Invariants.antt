@@ -6,5 +6,5 @@ use Rattle.runs.proofs.run.calling.update_rows.Given as goal
 -- the rows still to come make of the vector what all of them make of the first one
 abbrev pub invariant-loop-row : goal.invariant-loop-row
 invariant-loop-row g l =
-    let f = updated (g.K.Arithmetic.means l.arithmetic) (equations_of l.system) in
+    let f = updated (g.K.Arithmetic.means l.arithmetic) (equations_of l.equations) in
     fold f l.vector (drop l.row-index l.rows) ≡ fold f l.initial.vector l.rows

@@ -1,0 +1,10 @@
+use Rattle.std.proofs.Common.{length, sym}
+use Rattle.numbering.proofs.Passed.{rows_passed}
+use Rattle.numbering.proofs.Numbered.{numbering_passed}
+use Rattle.numbering.proofs.Numbering.carry_rows_back.Goals as goal
+
+pub invariant_of-ranks : goal.invariant_of-ranks
+invariant_of-ranks g c =
+    let p = rows_passed c.args.rows c.args.self.now.ranks.now c.args.self.now.rows_by_rank.now (length c.args.to.now) (length c.args.from.now) (sym c.in_ok-check_rows.ensures) in
+    let n = numbering_passed c.args.rows c.args.self.now.ranks.now c.args.self.now.rows_by_rank.now p.ranked p.placed p.right in
+    record { all = p.ranked; within = n.below }

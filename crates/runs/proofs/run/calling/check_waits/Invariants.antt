@@ -1,6 +1,0 @@
-use Rattle.std.proofs.Common.{◌≡◌, ℕ, ◌<◌, false, not, ◌&&◌}
-use Rattle.plans.specs.Words.{bit}
-use Rattle.runs.proofs.run.calling.check_waits.Given as goal
-
-abbrev pub invariant-loop-t : goal.invariant-loop-t
-invariant-loop-t l = (k : ℕ) → k < l.t → (bit l.word k && not (bit l.done k)) ≡ false
