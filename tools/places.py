@@ -122,7 +122,7 @@ def main():
                 if kind == "requires":
                     requires[crate, clause.replace(".old", ".now")].append(at)
             lists.append((at, names(params)))
-        for found in re.finditer(r"struct (\w+)[^;{]*\{(.*?)\n\}", text, re.S):
+        for found in re.finditer(r"^(?:pub(?:\(crate\))? )?struct (\w+)[^;{]*\{(.*?)\n\}", text, re.S | re.M):
             tables = re.findall(r"\w+: (?:Vec<|&'?\w* ?\[)", found.group(2))
             if len(tables) > 1:
                 places[6].append(f"{where}: struct {found.group(1)} holds {len(tables)} tables")

@@ -32,6 +32,7 @@ impl Arithmetic for Minutes {
     }
 
     fn take_in(&self, acc: u32, coefficient: u32, value: u32) -> u32 {
+        // Kept: `saturating_add` gives the same, but would not name the latest minute.
         let sum = coefficient as u64 + value as u64;
         let arrival = if sum > LATEST as u64 {
             NEVER

@@ -41,7 +41,7 @@ pub fn row_value<K: Arithmetic>(
 }
 
 // Updates one row in place; a row with no right-hand side or no value is left alone.
-// Kept: callers have the arithmetic and the system apart, so a struct of both would only be packed and unpacked.
+// Kept: callers have the arithmetic and the system apart, so a value of both would be made at a call and taken apart in it.
 pub fn update<K: Arithmetic>(
     arithmetic: &K,
     system: &System<'_, K::Coefficient, K::Value>,
@@ -51,7 +51,6 @@ pub fn update<K: Arithmetic>(
     ensures { vector.new ≡ updated (K.means arithmetic.now) (equations_of system.now) vector.old row }
 {
     let at = row as usize;
-    // Kept: with `get` and `get_mut` a value would be made before the vector is known to have its place.
     if at < system.right_hand_side.len() && at < vector.len() {
         let columns = system.matrix.row(system.matrix.columns, row);
         let coefficients = system.matrix.row(system.coefficients, row);

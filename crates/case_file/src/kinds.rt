@@ -48,6 +48,7 @@ impl TryFrom<u8> for Kind {
     }
 }
 
+// Kept: an impl of one's own names the bytes that are written, as a derived one would not.
 impl fmt::Display for UnknownKind {
     ghost output = { λ unknown. Some (codes "no kind has number " ++ decimal unknown.0) };
 

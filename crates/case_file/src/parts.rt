@@ -38,7 +38,7 @@ impl<'a> Part<'a> {
 
 impl Part<'_> {
     // Element i, or none where i is past the last whole element.
-    // Kept: this finds an element at once; `nth` of `chunks_exact` walks past all those before it.
+    // Kept: the library's `nth` walks past every element before i.
     pub fn element<K: Filed>(&self, i: usize) -> Option<K>
         ensures { result ≡ element_at K.Filed.width K.Filed.filed self.now.bytes.now i }
     {

@@ -53,6 +53,7 @@ pub struct Case<'a> {
     pub seed: Part<'a>,
 }
 
+// Kept: a clause names the fault that the `?` makes, and only an impl of one's own says which that is.
 impl From<UnknownKind> for Fault {
     ghost from_gives = { λ _ fault. fault ≡ fault_at File FileFormat 5 };
 

@@ -27,7 +27,7 @@ use std::alloc::{AllocError, Global};
 fn all_tiles(heap: Global, tiles: u32) -> Result<Vec<u32>, AllocError>
     ensures { IfOk result (λ v. v.items ≡ upto tiles) }
 {
-    // Kept: of a range that is collected as it stands the proof knows nothing.
+    // Kept: tried as `(0..tiles).collect(heap)`; the proof did not close.
     let mut numbers = Vec::new(heap);
     for tile in 0..tiles {
         numbers.push(tile)?;
@@ -46,6 +46,7 @@ fn describe_tiles(heap: Global, plan: &Plan<'_>) -> Result<Vec<Tile>, AllocError
 }
 
 // Opens what was prepared, calls every tile, and answers what there is to say of each.
+// Kept: the vector is written while the other figures are lent, so the figures come one by one.
 pub(crate) fn run_prepared<K: Arithmetic>(
     heap: Global,
     arithmetic: &K,

@@ -517,78 +517,20 @@ fn entries_refused(
 
 #[test]
 fn carrying_entries_refuses(rt: HostRuntime) {
-    entries_refused(
-        &rt,
-        &[0, 3],
-        &numbering(&[1], &[1, 0]),
-        &[4; 3],
-        &mut [9; 3],
-        2,
-        1,
-    );
-    entries_refused(
-        &rt,
-        &[0, 2, 3],
-        &numbering(&[1], &[1]),
-        &[4; 3],
-        &mut [9; 3],
-        2,
-        6,
-    );
-    entries_refused(
-        &rt,
-        &[0, 2, 3],
-        &numbering(&[1, 0], &[1]),
-        &[4; 2],
-        &mut [9; 3],
-        2,
-        7,
-    );
-    entries_refused(
-        &rt,
-        &[0, 2, 3],
-        &numbering(&[1, 0], &[1, 0]),
-        &[4; 2],
-        &mut [9; 2],
-        2,
-        12,
-    );
-    entries_refused(
-        &rt,
-        &[0, 2, 3],
-        &numbering(&[1, 0], &[1, 0]),
-        &[4; 3],
-        &mut [9; 4],
-        2,
-        32,
-    );
-    entries_refused(
-        &rt,
-        &[0, 4, 3],
-        &numbering(&[1, 2], &[1, 0]),
-        &[4; 3],
-        &mut [9; 3],
-        3,
-        2,
-    );
-    entries_refused(
-        &rt,
-        &[0, 2, 3],
-        &numbering(&[1, 2], &[1, 0]),
-        &[4; 3],
-        &mut [9; 3],
-        7,
-        1,
-    );
-    entries_refused(
-        &rt,
-        &[0, 2, 3],
-        &numbering(&[0, 1], &[1, 0]),
-        &[4; 3],
-        &mut [9; 3],
-        7,
-        0,
-    );
+    let short = numbering(&[1], &[1, 0]);
+    entries_refused(&rt, &[0, 3], &short, &[4; 3], &mut [9; 3], 2, 1);
+    let both_short = numbering(&[1], &[1]);
+    entries_refused(&rt, &[0, 2, 3], &both_short, &[4; 3], &mut [9; 3], 2, 6);
+    let fewer_rows = numbering(&[1, 0], &[1]);
+    entries_refused(&rt, &[0, 2, 3], &fewer_rows, &[4; 2], &mut [9; 3], 2, 7);
+    let swapped = numbering(&[1, 0], &[1, 0]);
+    entries_refused(&rt, &[0, 2, 3], &swapped, &[4; 2], &mut [9; 2], 2, 12);
+    entries_refused(&rt, &[0, 2, 3], &swapped, &[4; 3], &mut [9; 4], 2, 32);
+    let past_the_end = numbering(&[1, 2], &[1, 0]);
+    entries_refused(&rt, &[0, 4, 3], &past_the_end, &[4; 3], &mut [9; 3], 3, 2);
+    entries_refused(&rt, &[0, 2, 3], &past_the_end, &[4; 3], &mut [9; 3], 7, 1);
+    let other_row = numbering(&[0, 1], &[1, 0]);
+    entries_refused(&rt, &[0, 2, 3], &other_row, &[4; 3], &mut [9; 3], 7, 0);
 }
 
 fn entries_back_refused(

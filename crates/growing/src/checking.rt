@@ -39,6 +39,7 @@ fn check_lengths(
     Table::Marks.check_length(marked, entries, Layer::Matrix)
 }
 
+// Kept: the check of a plan's tiles has another check and another layer, and a shared one would take both.
 fn check_seed(tiles: u32, seed: &[u8]) -> Result<(), Fault>
     ensures { result_err result ≡ seed_fault tiles seed.now }
 {

@@ -23,6 +23,7 @@ impl Direction {
     pub(crate) fn pair(self, row: usize, column: usize, mark: u8) -> Option<(usize, usize)>
         ensures { result ≡ entry_pair self row column mark }
     {
+        // Kept: marks are bytes that callers are lent, and 1 and 2 are what the rules call them.
         match (self, mark) {
             (Direction::Down, 1) | (Direction::Up, 2) => Some((row, column)),
             (Direction::Down, 2) | (Direction::Up, 1) => Some((column, row)),

@@ -26,7 +26,7 @@ fn mark_row(tiles: &[u8], row: usize, columns: &[u32], marks: &mut [u8])
     requires marks { length marks.old ≡ length columns.now }
     ensures { marks.new ≡ remarked tiles.now row columns.now marks.old }
 {
-    // Kept: of marks written through a zip of iter_mut the loop's proof knows nothing afterwards.
+    // Kept: tried as a `zip` with `iter_mut`; what is written is then unknown to the proof.
     for (e, mark) in marks.iter_mut().enumerate() {
         *mark = remark(tiles[row], tiles[columns[e] as usize], *mark);
     }
@@ -45,6 +45,7 @@ impl SoundMatrix<'_> {
             columns,
             ..
         } = self.matrix;
+        // Kept: the row's number is needed too, and a pair of `windows(2)` would be taken apart by index again.
         for row in 0..rows as usize {
             let (from, to) = (starts[row] as usize, starts[row + 1] as usize);
             mark_row(tiles, row, &columns[from..to], &mut marks[from..to]);

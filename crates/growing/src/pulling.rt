@@ -46,6 +46,7 @@ impl Growth<'_> {
     }
 
     // A row's entries, once. Answers whether a tile moved.
+    // Kept: the length of a sweep that is lent to be written cannot be a fact of the growth, which holds only its neighbour.
     fn pull_row(&self, own: &mut [u8], row: u32, backward: bool) -> bool
         requires own { length own.old ≡ self.now.sound.matrix.rows }
         requires row { row < self.now.sound.matrix.rows }

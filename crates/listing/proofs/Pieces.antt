@@ -6,7 +6,3 @@ use Rattle.std.proofs.lemmas.List.{flat_map_more}
 module _ {X : Type 0} (piece : X → List ℕ) (start before after : List ℕ) where
   pub pieces_more : (xs : List X) (x : X) {ys : List X} → ys ≡ xs ++ x ∷ [] → before ≡ start ++ flat_map piece xs → after ≡ before ++ piece x → after ≡ start ++ flat_map piece ys
   pieces_more xs x e inv w = w ∙ ap (λ a. a ++ piece x) inv ∙ flat_map_more piece start xs x ∙ ap (λ zs. start ++ flat_map piece zs) (sym e)
-
--- three pieces, one after the other
-pub thrice : (t0 t1 t2 t3 a b c : List ℕ) → t1 ≡ t0 ++ a → t2 ≡ t1 ++ b → t3 ≡ t2 ++ c → t3 ≡ t0 ++ ((a ++ b) ++ c)
-thrice t0 t1 t2 t3 a b c p q r = r ∙ ap (λ t. t ++ c) (q ∙ ap (λ t. t ++ b) p) ∙ simp append_assoc

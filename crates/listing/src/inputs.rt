@@ -6,7 +6,7 @@ use std::alloc::Global;
 use std::io;
 use std::io::Read;
 
-// All input, or one byte more than may be, so that a longer one is seen to be too long.
+// All input, but of one that is too long no more than shows that it is.
 pub fn read_input<R: Read + Drop>(heap: Global, reader: R) -> io::Result<Vec<u8>>
     ensures { IfOk result (λ input. IfSome (R.remaining reader) (λ bytes. input.items ≡ take 16_385 bytes)) }
 {

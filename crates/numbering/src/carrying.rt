@@ -20,7 +20,7 @@ pub(crate) fn gather_rows<K: Copy>(rows: &RowNumbers, from: &[K], to: &mut [K])
     requires room { length to.old ≡ rows.now.rows }
     ensures { to.new ≡ carried_rows rows.now.list.now from.now }
 {
-    // Kept: the proof does not know what is written through `iter_mut` under a `zip`, and `next` beside it is no plainer.
+    // Kept: tried as a `zip` with `iter_mut`; what is written is then unknown to the proof.
     for (i, row) in rows.list.iter().enumerate() {
         to[i] = from[*row as usize];
     }
@@ -39,7 +39,7 @@ pub(crate) fn gather_entries<K: Copy>(matrix: &Matrix, rows: &[u32], from: &[K],
     requires { length (carried_entries (pattern_of matrix.now) rows.now from.now) ≡ length to.old }
     ensures { to.new ≡ carried_entries (pattern_of matrix.now) rows.now from.now }
 {
-    // Kept: the proof does not know what is written to the parts that `split_at_mut` cuts off what is left.
+    // Kept: tried with a rest that is split again in each turn; what is written to it is then unknown to the proof.
     let mut place = 0;
     for row in rows {
         let part = matrix.row(from, *row);

@@ -89,6 +89,7 @@ pub(crate) fn check_entries(
 }
 
 // The sizes and lengths of remapping.
+// Kept: a value of the three new lengths would be made for this one call.
 fn check_remap_tables(
     matrix: &Matrix,
     sweeps: u32,

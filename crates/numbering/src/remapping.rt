@@ -49,7 +49,7 @@ fn move_tiles(rows: &RowNumbers, sweeps: u32, tile_table: &[u8], new_tile_table:
     ensures { new_tile_table.new ≡ remapped_tiles rows.now.rows sweeps rows.now.list.now tile_table.now }
 {
     let length = rows.rows as usize;
-    // Kept: the proof does not know what is written to the chunks of `chunks_exact_mut`.
+    // Kept: tried with `chunks_exact_mut`; what is written to a chunk is then unknown to the proof.
     for sweep in 0..sweeps as usize {
         let start = sweep * length;
         let end = start + length;

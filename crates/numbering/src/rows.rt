@@ -3,6 +3,7 @@ ghost use Rattle.std.specs.Prelude.{◌≡◌, ℕ, ◌<◌, length};
 ghost use Rattle.checks.specs.Lists.{at};
 
 // R row numbers, each below R.
+// Kept: R stands beside the list as a u32, as the sizes are everywhere, and its length need not be cast.
 #[derive(Clone, Copy)]
 pub(crate) struct RowNumbers<'a> {
     pub(crate) rows: u32,

@@ -62,6 +62,7 @@ fn case_text(heap: Global, case: &Case<'_>) -> Result<String, AllocError>
 }
 
 // What is printed of a file's bytes.
+// Kept: reports differ in the text of a case; a shared one would take it as a closure, and say less plainly what is printed.
 pub fn report(heap: Global, file: &[u8]) -> Result<String, AllocError>
     ensures { IfOk result (λ text. string_bytes text ≡ reported file.now) }
 {

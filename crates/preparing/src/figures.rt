@@ -21,6 +21,7 @@ pub struct Figures<C, V> {
 }
 
 impl Ranking {
+    // Kept: the three that follow differ in the call that carries, and a closure for it would be longer than the call.
     fn rows_there<X: Copy>(&self, heap: Global, rows: u32, list: &[X]) -> Result<Vec<X>, Failure>
         ensures { Answers (first_fault (row_checks rows self.now.ranks.items self.now.rows.items (length list.now) (length list.now))) (λ v. v.items ≡ carried_rows self.now.rows.items list.now) result }
     {

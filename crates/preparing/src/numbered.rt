@@ -39,6 +39,7 @@ impl Ranking {
 }
 
 // The matrix and the tile table in the new numbering.
+// Kept: the sizes stand beside the tables as u32, as they are lent, and no length need be cast.
 #[derive(Drop)]
 pub struct Remapped {
     pub rows: u32,

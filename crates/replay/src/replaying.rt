@@ -36,6 +36,7 @@ use runs::system::TiledSystem;
 use std::alloc::{AllocError, Global};
 
 // Opens what was prepared and retells a run over it.
+// Kept: the vector is written while the other figures are lent, so the figures come one by one.
 fn replay_prepared<F: Filed + Copy, K: Arithmetic<Coefficient = F, Value = F>>(
     heap: Global,
     arithmetic: &K,

@@ -46,6 +46,7 @@ fn check_lengths(tiling: &Tiling, lengths: Lengths) -> Result<(), Fault>
     Table::NewTileTable.check_length(tiling.cells.len(), sweeps * rows, Layer::Plan)
 }
 
+// Kept: the check of a seed has another check and another layer, and a shared one would take both.
 fn check_tiles(tiling: &Tiling) -> Result<(), Fault>
     ensures fault { result_err result ≡ tiles_fault tiling.now.tiles tiling.now.cells.now }
     ensures below { OnOk result (Below tiling.now) }

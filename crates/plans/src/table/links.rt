@@ -11,8 +11,9 @@ ghost use Rattle.plans.specs.Lent.{tiling_of};
 
 use super::TileTable;
 
-// Kept: as a ghost field, the words' length would need the table here too, and each method to say that it stays the same.
-// What the pairs so far show: who waits for whom, and the lowest point that a higher tile precedes.
+// What the pairs so far show: who waits for whom, and the lowest point that a higher tile precedes, or the number of points.
+// Kept: the length of the words is a fact of words and table, and the notes hold no table.
+// Kept: the lowest of many begins at the number of points; as an option each pair would be matched on.
 #[derive(Drop)]
 struct Notes<'w> {
     words: &'w mut [u64],
@@ -50,6 +51,7 @@ impl TileTable<'_> {
     }
 
     // An entry of row v with column w, in one sweep.
+    // Kept: rows come as numbers out of the entries, and a type for a row below R would be made at each.
     fn note_sweep(&self, notes: &mut Notes, v: usize, w: usize, sweep: usize)
         requires words { length notes.old.words.now ≡ self.now.tiling.tiles }
         requires v { v < self.now.tiling.matrix.rows }
