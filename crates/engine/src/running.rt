@@ -46,7 +46,7 @@ fn describe_tiles(heap: Global, plan: &Plan<'_>) -> Result<Vec<Tile>, AllocError
 }
 
 // Opens what was prepared, calls every tile, and answers what there is to say of each.
-// Kept: the vector is written while the other figures are lent, so the figures come one by one.
+// Kept: the run lends two of the figures and writes the third, so a value of the three would be taken apart at once.
 pub(crate) fn run_prepared<K: Arithmetic>(
     heap: Global,
     arithmetic: &K,

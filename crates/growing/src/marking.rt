@@ -26,7 +26,7 @@ fn mark_row(tiles: &[u8], row: usize, columns: &[u32], marks: &mut [u8])
     requires marks { length marks.old ≡ length columns.now }
     ensures { marks.new ≡ remarked tiles.now row columns.now marks.old }
 {
-    // Kept: tried as a `zip` with `iter_mut`; what is written is then unknown to the proof.
+    // Kept: tried as a `zip` of the columns with `marks.iter_mut()`; what is written is then unknown to the proof.
     for (e, mark) in marks.iter_mut().enumerate() {
         *mark = remark(tiles[row], tiles[columns[e] as usize], *mark);
     }

@@ -89,7 +89,7 @@ pub(crate) fn check_entries(
 }
 
 // The sizes and lengths of remapping.
-// Kept: a value of the three new lengths would be made for this one call.
+// Kept: only `remap` has these three lengths; a value of them would be made there once and taken apart here.
 fn check_remap_tables(
     matrix: &Matrix,
     sweeps: u32,

@@ -12,7 +12,7 @@ pub enum Failure {
     NoMemory(AllocError),
 }
 
-// Kept: clauses name the failure that a `?` makes, and only an impl of one's own says which that is.
+// Kept: `?` converts by these impls, and their clauses say which failure it makes; a derived one would say nothing.
 impl From<Fault> for Failure {
     ghost from_gives = { λ fault r. r ≡ Refusal fault };
 

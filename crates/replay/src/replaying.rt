@@ -36,7 +36,7 @@ use runs::system::TiledSystem;
 use std::alloc::{AllocError, Global};
 
 // Opens what was prepared and retells a run over it.
-// Kept: the vector is written while the other figures are lent, so the figures come one by one.
+// Kept: the run lends two of the figures and writes the third, so a value of the three would be taken apart at once.
 fn replay_prepared<F: Filed + Copy, K: Arithmetic<Coefficient = F, Value = F>>(
     heap: Global,
     arithmetic: &K,
