@@ -1,13 +1,16 @@
 -- A walk over two lists side by side. Assumes nothing.
-use Rattle.std.proofs.Common.{◌≡◌, ◌⊎◌, List, [], ◌∷◌, length, refl, inl, inr, arith}
+use Rattle.std.proofs.Common.{◌≡◌, ◌⊎◌, List, [], ◌∷◌, length, refl, ap₂, inl, inr, arith}
 use Rattle.std.specs.List.{zip}
 
 module _ {A B : Type 0} where
-  zip_first_empty : (xs : List A) (ys : List B) → length xs ≡ 0 → zip xs ys ≡ []
+  pub zip_more : {x : A} {y : B} {xs more : List A} {ys others : List B} → xs ≡ x ∷ more → ys ≡ y ∷ others → zip xs ys ≡ (x, y) ∷ zip more others
+  zip_more p q = ap₂ zip p q
+
+  pub zip_first_empty : (xs : List A) (ys : List B) → length xs ≡ 0 → zip xs ys ≡ []
   zip_first_empty [] ys e = refl
   zip_first_empty (x ∷ xs) ys e = absurd (omega arith)
 
-  zip_second_empty : (xs : List A) (ys : List B) → length ys ≡ 0 → zip xs ys ≡ []
+  pub zip_second_empty : (xs : List A) (ys : List B) → length ys ≡ 0 → zip xs ys ≡ []
   zip_second_empty [] ys e = refl
   zip_second_empty (x ∷ xs) [] e = refl
   zip_second_empty (x ∷ xs) (y ∷ ys) e = absurd (omega arith)

@@ -6,7 +6,7 @@ use Rattle.std.proofs.lemmas.List.Edits.{length-between, get_or-between}
 use Rattle.checks.specs.Lists.{at, upto}
 use Rattle.case_file.specs.Numbers.{big, number_at}
 
-big_of : (bytes : List ℕ) (n : ℕ) → length bytes ≡ n → big (map (at bytes) (upto n)) ≡ big bytes
+pub big_of : (bytes : List ℕ) (n : ℕ) → length bytes ≡ n → big (map (at bytes) (upto n)) ≡ big bytes
 big_of bytes n long = ap big (sym (fill_by_all (at bytes) bytes n 0 long (λ k l. refl)))
 
 -- the number in four bytes of a file

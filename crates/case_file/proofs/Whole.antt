@@ -14,7 +14,7 @@ use Rattle.checks.specs.Lists.{upto}
 use Rattle.case_file.specs.Elements.{one_element, element_count, element_bytes, elements}
 
 -- a whole element ends within the table
-ends_within : (n width i : ℕ) → i < n / width → i * width + width ≤ n
+pub ends_within : (n width i : ℕ) → i < n / width → i * width + width ≤ n
 ends_within n width i h =
     let all = div-add-mod' n width in
     let below : (i + 1) * width ≤ n / width * width = mul-le (i + 1) width (n / width) width (omega arith) (omega arith) in

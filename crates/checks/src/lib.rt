@@ -1,15 +1,18 @@
 // What a refused call answers: which check failed, at which place, in which layer.
 #![tactic(auto)]
 
-ghost use Rattle.std.specs.Prelude.{◌≡◌, decimal, Some};
+ghost use Rattle.std.specs.Prelude.{◌≡◌, ◌==◌, decimal, Some};
 ghost use Rattle.checks.specs.Faults.{number_of, word_of, line_of};
 ghost use Rattle.std.specs.Option.{option_map};
 ghost use Rattle.std.specs.Result.{result_err};
 ghost use Rattle.checks.specs.Verdicts.{fault_at, fault_if, LowestIsLowest};
+ghost use Rattle.std.specs.Cmp.Rules.{comparing};
+ghost use Rattle.std.proofs.Common.{rules};
+ghost use Rattle.std.specs.Cmp as Keys;
 
 use std::fmt;
 
-#[derive(Clone, Copy, Debug, PartialEq, Eq)]
+#[derive(Clone, Copy, Debug)]
 pub enum Check {
     Size = 1,
     Length = 2,
@@ -63,6 +66,22 @@ impl Check {
             None => Ok(()),
         }
     }
+}
+
+// Two checks are the same where their numbers are.
+// Kept: a derived equality has no text in which a wrong comparison could be tried.
+impl PartialEq for Check {
+    ghost eq = { λ a b. number_of a == number_of b };
+
+    ghost laws = { Keys.partial_equiv_from_equiv (Prim.search (comparing, rules)) };
+
+    fn eq(&self, other: &Check) -> bool {
+        self.number() == other.number()
+    }
+}
+
+impl Eq for Check {
+    ghost laws = { Prim.search (comparing, rules) };
 }
 
 #[derive(Clone, Copy, PartialEq, Eq, Debug)]

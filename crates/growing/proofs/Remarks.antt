@@ -13,7 +13,7 @@ use Rattle.growing.specs.Growing.{before, mark, marks_of}
 use Rattle.growing.specs.Directions.{added}
 use Rattle.growing.specs.Marks.{Sound, remark, remarked, remarked_all}
 use Rattle.growing.proofs.Orders.{some_at, linked_back, before_added, none_before}
-use Rattle.growing.proofs.Rows.{all_row, length_row, length_row_is, row_joined}
+use Rattle.growing.proofs.Rows.{all_row, length_row, length_row_is, length_joined, row_joined}
 
 joined_same : {X : Type 0} (f h : ℕ → List X) (a n : ℕ) → ((v : ℕ) → a ≤ v → v < a + n → f v ≡ h v) → flat_map f (range_with_len a n) ≡ flat_map h (range_with_len a n)
 joined_same f h a zero e = refl
@@ -64,6 +64,9 @@ module _ (m : Pattern) (s : Sound m) where
 
   pub marks_rows : (grown : List (List ℕ)) (marks : List ℕ) → marks ≡ marks_of m grown → (v : ℕ) → v < m.rows → row_part m marks v ≡ map (mark m grown v) (row_part m m.columns v)
   marks_rows grown marks e v l = ap (λ t. row_part m t v) e ∙ row_joined m s (λ u. map (mark m grown u) (row_part m m.columns u)) (row_long grown) v l
+
+  pub length_marks : (grown : List (List ℕ)) (marks : List ℕ) → marks ≡ marks_of m grown → length marks ≡ length m.columns
+  length_marks grown marks e = ap length e ∙ length_joined m s (λ u. map (mark m grown u) (row_part m m.columns u)) (row_long grown) m.rows (omega arith) ∙ s.ends
 
   at_zeros : (n i : ℕ) → at (replicate n 0) i ≡ 0
   at_zeros zero i = refl

@@ -141,3 +141,6 @@ module _ (m : Pattern) (fit : Fit m) (rank row : List ℕ) (num : Numbering m.ro
   carried_again ys long =
       let again = carried_entries (remapped m rank row) rank ys in
       sym (ap (λ s. flat_map (λ v. between (at s v) (at s (v + 1)) again) row) (starts_back m fit rank row num)) ∙ carried_back (remapped m rank row) (new_fit m fit rank row num) row rank (turned num) ys long
+
+  pub length_carried_back : {X : Type 0} (ys : List X) → length ys ≡ m.entries → length (carried_entries (remapped m rank row) rank ys) ≡ m.entries
+  length_carried_back ys long = length_carried (remapped m rank row) (new_fit m fit rank row num) row rank (turned num) ys long

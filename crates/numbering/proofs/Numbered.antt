@@ -1,6 +1,6 @@
 -- What ranks and rows by rank are to one another once they have passed their check. Assumes nothing.
-use Rattle.std.proofs.Common.{◌≡◌, ℕ, zero, suc, ◌<◌, cond, not, eqb, ltb, List, map, length, None, sym, ap, ◌∙◌, inl, inr, arith}
-use Rattle.std.proofs.lemmas.List.FromFn.{fill_by_all}
+use Rattle.std.proofs.Common.{◌≡◌, ℕ, zero, suc, ◌<◌, cond, not, eqb, ltb, List, map, length, None, sum_by, sym, ap, ◌∙◌, inl, inr, arith}
+use Rattle.std.proofs.lemmas.List.FromFn.{length-range_with_len, get_or-range_with_len, fill_by_all}
 use Rattle.std.proofs.lemmas.List.{length-map, get_or-map, map-id, ext_get_or}
 use Rattle.std.proofs.lemmas.Bool.{cases_eq, eqb-true, eq-eqb, ne_eqb, lt-ltb, ltb-true, not-false, not_from_true, or_parts, or_from, cond-true, cond-false}
 use Rattle.checks.specs.Lists.{at, upto}
@@ -9,7 +9,7 @@ use Rattle.checks.specs.declared.Layer.TheVariants.{Plan}
 use Rattle.checks.proofs.Firsts.{lowest_none, lowest_passed}
 use Rattle.numbering.specs.Refusals.{bad_rank, ranks_fault}
 use Rattle.numbering.specs.Laws.{Numbering}
-use Rattle.numbering.proofs.Tallies.{total, total_same, total_swap, pick}
+use Rattle.numbering.proofs.Tallies.{total, total_same, total_swap, pick, sum_all}
 
 -- a map of the numbers below n into themselves that never repeats leaves none out
 pub no_gap : (n : ℕ) (f : ℕ → ℕ) → ((v : ℕ) → v < n → f v < n) → ((v w : ℕ) → v < n → w < n → f v ≡ f w → v ≡ w) → (i : ℕ) → i < n → (v : ℕ) × (v < n) × (f v ≡ i)
@@ -117,3 +117,8 @@ module _ {r : ℕ} {rank row : List ℕ} (num : Numbering r rank row) (f : ℕ �
       total_same _ (λ i. total (λ v. cond (eqb (at row i) v) (f v) 0) r) r (λ i h. sym (pick f (at row i) r (num.inside i h)))
       ∙ total_swap (λ i v. cond (eqb (at row i) v) (f v) 0) r r
       ∙ total_same _ f r one
+
+  pub sum_renumbered : sum_by f row ≡ sum_by f (upto r)
+  sum_renumbered =
+      sum_all f row r num.placed ∙ total_renumbered ∙ total_same f (λ i. f (at (upto r) i)) r (λ v h. ap f (sym (get_or-range_with_len 0 r v 0 h ∙ omega arith)))
+      ∙ sym (sum_all f (upto r) r (length-range_with_len 0 r))

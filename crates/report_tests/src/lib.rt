@@ -4,6 +4,7 @@
 #[cfg(test)]
 mod tests {
     use engine_report::reporting::report;
+    use listing::inputs::read_input;
     use replay::replaying::replay;
     use std::process::Abort;
     use std::test::Fail;
@@ -26,6 +27,20 @@ mod tests {
     fn printed(rt: &(impl Abort + AllocGlobal), file: &[u8], text: &str) -> Result<(), Fail> {
         let got = report(rt.alloc(), file)?;
         assert_eq!(rt; got.as_str(), text);
+        Ok(())
+    }
+
+    #[test]
+    fn reads_an_input_whole(rt: HostRuntime) -> Result<(), Fail> {
+        let input = read_input(rt.alloc(), DOUBLES.as_slice())?;
+        assert_eq!(rt; input.as_slice(), DOUBLES.as_slice());
+        Ok(())
+    }
+
+    #[test]
+    fn reads_of_a_long_input_what_shows_it(rt: HostRuntime) -> Result<(), Fail> {
+        let input = read_input(rt.alloc(), [7; 20_000].as_slice())?;
+        assert_eq!(rt; input.len(), 16_385);
         Ok(())
     }
 

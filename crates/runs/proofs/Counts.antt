@@ -70,13 +70,13 @@ fit : (a b n points : ℕ) → b ≡ a + 1 → b ≤ 64 → n ≤ 16777216 → p
 fit a b n points e h few before = (omega arith, omega arith)
 
 -- one call more leaves a count of points that fits
-points_fit : (w u n points : ℕ) → u < 64 → bit w u ≡ false → n ≤ 16777216 → points ≤ 16777216 * count_by (bit w) (upto 64)
+pub points_fit : (w u n points : ℕ) → u < 64 → bit w u ≡ false → n ≤ 16777216 → points ≤ 16777216 * count_by (bit w) (upto 64)
     → (points + n ≤ 16777216 * count_by (bit (bit_or w (2 ^ u))) (upto 64)) × (points + n ≤ 1073741824)
 points_fit w u n points h clear few before =
     fit (count_by (bit w) (upto 64)) (count_by (bit (bit_or w (2 ^ u))) (upto 64)) n points (count_set w u clear 64 h) (count_by-le-length (bit (bit_or w (2 ^ u))) (upto 64)) few before
 
 -- a tile of a plan has no more points than the greatest plan
-size_few : (R T : ℕ) (tile : Tiles) (t : ℕ) → R ≤ 1048576 → T ≤ 16 → size R T tile t ≤ 16777216
+pub size_few : (R T : ℕ) (tile : Tiles) (t : ℕ) → R ≤ 1048576 → T ≤ 16 → size R T tile t ≤ 16777216
 size_few R T tile t h k =
     let a = size_le R T tile t in
     let b : T * R ≤ 16 * R = mul-le-mul_right R k in

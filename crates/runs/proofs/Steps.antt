@@ -16,7 +16,7 @@ use Rattle.points.specs.Runs.{State, accepts, with_tile, call}
 use Rattle.points.proofs.Uptos.{every_at, every_from}
 use Rattle.plans.specs.Tilings.{Tiling, tile_of, waits}
 use Rattle.plans.specs.Words.{bit}
-use Rattle.plans.proofs.Wordbits.{bit_set}
+use Rattle.plans.proofs.Wordbits.{bit_set, bit_zero}
 use Rattle.runs.specs.declared.run.Run.{Run}
 use Rattle.runs.specs.Calls.{Sizes, sizes_of, differing_fault, lengths_fault, tile_fault, call_fault, tile_swept, advanced}
 use Rattle.runs.specs.Held.{sizes_held, progress_held, equations_with}
@@ -76,6 +76,16 @@ own_call n done l coefficients rhs x u sized long =
     only (differing_fault n (sizes_of l) ∷ lengths_fault l.pattern coefficients rhs x ∷ []) (tile_fault l (bit done) u) [] (same, (long, tt)) (λ _. tt)
 
 module _ {C V : Type 0} (m : Meaning C V) (l : Tiling) (cs : List C) (bs x : List V) where
+  -- at the beginning nothing is done
+  pub reached_none : (r : Run) → sizes_held r ≡ sizes_of l → lengths_fault l.pattern (length cs) (length bs) (length x) ≡ None → progress_held r ≡ record { done = 0; points = 0 } → Reached m l cs bs x [] r x
+  reached_none r sized long fresh = record {
+    sizes = sized;
+    lengths = long;
+    done = λ t. ap (λ p. bit p.done t) fresh ∙ bit_zero t;
+    points = ap (λ p. p.points) fresh;
+    values = refl;
+  }
+
   pub after_more : (calls : List ℕ) (u : ℕ) → after m l cs bs x (calls ++ u ∷ []) ≡ call (λ c i y. updated m (equations_with l cs bs) y i) l.pattern.rows l.sweeps l.count (tile_of l) (waits l) (after m l cs bs x calls) u
   after_more calls u = fold_push (call (λ c i y. updated m (equations_with l cs bs) y i) l.pattern.rows l.sweeps l.count (tile_of l) (waits l)) _ calls u
 

@@ -1,5 +1,5 @@
 -- One piece more of a text. Assumes nothing.
-use Rattle.std.proofs.Common.{◌≡◌, ℕ, ◌+◌, ◌-◌, ◌*◌, ◌≤◌, List, [], ◌∷◌, ◌++◌, length, take, drop, sym, ap, ◌∙◌, length-append, length-drop, add-mul, one-mul, arith}
+use Rattle.std.proofs.Common.{◌≡◌, ℕ, ◌+◌, ◌-◌, ◌*◌, ◌<◌, ◌≤◌, List, [], ◌∷◌, ◌++◌, length, take, drop, sym, ap, ◌∙◌, length-append, length-drop, mul-le-mul_right, add-mul, one-mul, arith}
 use Rattle.std.specs.List.{between, flat_map}
 use Rattle.std.proofs.lemmas.List.{flat_map_more, take_at, drop_at, drop-drop}
 
@@ -28,3 +28,10 @@ module _ (table rest row left : List ℕ) (s rows : ℕ) (begins : rest ≡ drop
       let d = ap length begins in
       let e = more in
       omega arith
+
+-- a row of the table ends within it
+pub row_within : (s rows sweeps : ℕ) → s < sweeps → s * rows + rows ≤ sweeps * rows
+row_within s rows sweeps l =
+    let m : (s + 1) * rows ≤ sweeps * rows = mul-le-mul_right rows (omega arith) in
+    let e : (s + 1) * rows ≡ s * rows + rows = add-mul s 1 rows ∙ ap (λ x. s * rows + x) (one-mul rows) in
+    omega arith
