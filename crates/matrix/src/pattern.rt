@@ -49,7 +49,8 @@ fn cut<X>(list: &[X], from: usize, to: usize) -> &[X]
 fn own_entries(row: u32, part: &[u32]) -> usize
     ensures { result ≡ count_by (nat_eq row) part.now }
 {
-    part.iter().filter(|column| **column == row).count()
+    // A sum of ones, since the library's count of a filter takes half as long again on long rows.
+    part.iter().map(|column| usize::from(*column == row)).sum()
 }
 
 impl Matrix<'_> {
